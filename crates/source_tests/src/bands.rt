@@ -13,7 +13,10 @@ use table::Source;
 fn limits() -> Result<(), Fail> {
     check_eq(found(&Band::new(1, 0, 0)), at(0, 0, 0, 0))?;
     check_eq(found(&Band::new(127, 7_000, 1_000_000)), at(0, 0, 0, 0))?;
-    check_eq(found(&Opposite::new(Band::new(127, 7_000, 1_000_000))), at(0, 0, 0, 0))?;
+    check_eq(
+        found(&Opposite(Band::new(127, 7_000, 1_000_000))),
+        at(0, 0, 0, 0),
+    )?;
     check_eq(found(&Band::new(0, 0, 0)), at(11, 0, 0, 0))?;
     check_eq(found(&Band::new(128, 0, 0)), at(11, 0, 0, 0))?;
     check_eq(found(&Band::new(1, 7_001, 0)), at(11, 0, 0, 0))?;

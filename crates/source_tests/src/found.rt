@@ -15,7 +15,12 @@ pub(crate) fn found<S: Source>(source: &S) -> Notice {
 }
 
 pub(crate) fn at(number: u32, state: u32, choice: u32, branch: u32) -> Notice {
-    Notice { number, state, choice, branch }
+    Notice {
+        number,
+        state,
+        choice,
+        branch,
+    }
 }
 
 pub(crate) fn state(first: u32, count: u32) -> StateRow {
@@ -23,9 +28,18 @@ pub(crate) fn state(first: u32, count: u32) -> StateRow {
 }
 
 pub(crate) fn choice(reward: i32, first: u32, count: u32) -> ChoiceRow {
-    ChoiceRow { reward, first, count }
+    ChoiceRow {
+        reward,
+        first,
+        count,
+    }
 }
 
-pub(crate) fn in_list<'a>(denominator: u32, states: &'a [StateRow], choices: &'a [ChoiceRow], branches: &'a [(u32, u32)]) -> Notice {
+pub(crate) fn in_list<'a>(
+    denominator: u32,
+    states: &'a [StateRow],
+    choices: &'a [ChoiceRow],
+    branches: &'a [(u32, u32)],
+) -> Notice {
     found(&List::new(denominator, states, choices, branches))
 }

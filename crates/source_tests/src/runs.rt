@@ -16,10 +16,22 @@ use table::Source;
 fn of_choices() -> Result<(), Fail> {
     let choices = [choice(1, 0, 1), choice(2, 0, 1), choice(3, 0, 1)];
     let branches = [(0, 4)];
-    check_eq(in_list(4, &[state(1, 2)], &choices, &branches), at(0, 0, 0, 0))?;
-    check_eq(in_list(4, &[state(2, 2)], &choices, &branches), at(13, 0, 0, 0))?;
-    check_eq(in_list(4, &[state(4_294_967_295, 1)], &choices, &branches), at(13, 0, 0, 0))?;
-    check_eq(in_list(4, &[state(4_294_967_295, 4)], &choices, &branches), at(13, 0, 0, 0))?;
+    check_eq(
+        in_list(4, &[state(1, 2)], &choices, &branches),
+        at(0, 0, 0, 0),
+    )?;
+    check_eq(
+        in_list(4, &[state(2, 2)], &choices, &branches),
+        at(13, 0, 0, 0),
+    )?;
+    check_eq(
+        in_list(4, &[state(4_294_967_295, 1)], &choices, &branches),
+        at(13, 0, 0, 0),
+    )?;
+    check_eq(
+        in_list(4, &[state(4_294_967_295, 4)], &choices, &branches),
+        at(13, 0, 0, 0),
+    )?;
     let states = [state(1, 2)];
     let list = List::new(4, &states, &choices, &branches);
     check_eq(list.reward(0, 0), 2)?;
@@ -32,9 +44,18 @@ fn of_choices() -> Result<(), Fail> {
 fn of_branches() -> Result<(), Fail> {
     let states = [state(0, 1), state(0, 1)];
     let branches = [(9, 9), (0, 1), (1, 3)];
-    check_eq(in_list(4, &states, &[choice(0, 1, 2)], &branches), at(0, 0, 0, 0))?;
-    check_eq(in_list(4, &states, &[choice(0, 2, 2)], &branches), at(15, 0, 0, 0))?;
-    check_eq(in_list(4, &states, &[choice(0, 4_294_967_295, 3)], &branches), at(15, 0, 0, 0))?;
+    check_eq(
+        in_list(4, &states, &[choice(0, 1, 2)], &branches),
+        at(0, 0, 0, 0),
+    )?;
+    check_eq(
+        in_list(4, &states, &[choice(0, 2, 2)], &branches),
+        at(15, 0, 0, 0),
+    )?;
+    check_eq(
+        in_list(4, &states, &[choice(0, 4_294_967_295, 3)], &branches),
+        at(15, 0, 0, 0),
+    )?;
     let choices = [choice(0, 1, 2)];
     let list = List::new(4, &states, &choices, &branches);
     check_eq(list.branch(0, 0, 1), (1, 3))?;
@@ -60,15 +81,19 @@ fn of_states() -> Result<(), Fail> {
 #[test]
 fn opposites() -> Result<(), Fail> {
     let states = [state(0, 3)];
-    let choices = [choice(-2_147_483_648, 0, 1), choice(2_147_483_647, 0, 1), choice(5, 0, 1)];
+    let choices = [
+        choice(-2_147_483_648, 0, 1),
+        choice(2_147_483_647, 0, 1),
+        choice(5, 0, 1),
+    ];
     let branches = [(0, 4)];
     let list = List::new(4, &states, &choices, &branches);
-    let once = Opposite::new(list);
+    let once = Opposite(list);
     check_eq(once.reward(0, 0), 2_147_483_647)?;
     check_eq(once.reward(0, 1), -2_147_483_647)?;
     check_eq(once.reward(0, 2), -5)?;
     check_eq(once.reward(0, 3), 0)?;
-    let twice = Opposite::new(once);
+    let twice = Opposite(once);
     check_eq(twice.reward(0, 0), -2_147_483_647)?;
     check_eq(twice.reward(0, 1), 2_147_483_647)?;
     check_eq(twice.reward(0, 2), 5)?;

@@ -12,16 +12,56 @@ pub(crate) const STATES: [StateRow; 5] = [
 
 // Holding and recentring in turn.
 pub(crate) const CHOICES: [ChoiceRow; 10] = [
-    ChoiceRow { reward: -10, first: 0, count: 2 },
-    ChoiceRow { reward: -40, first: 13, count: 1 },
-    ChoiceRow { reward: -5, first: 2, count: 3 },
-    ChoiceRow { reward: -40, first: 13, count: 1 },
-    ChoiceRow { reward: 0, first: 5, count: 3 },
-    ChoiceRow { reward: -40, first: 13, count: 1 },
-    ChoiceRow { reward: -5, first: 8, count: 3 },
-    ChoiceRow { reward: -40, first: 13, count: 1 },
-    ChoiceRow { reward: -10, first: 11, count: 2 },
-    ChoiceRow { reward: -40, first: 13, count: 1 },
+    ChoiceRow {
+        reward: -10,
+        first: 0,
+        count: 2,
+    },
+    ChoiceRow {
+        reward: -40,
+        first: 13,
+        count: 1,
+    },
+    ChoiceRow {
+        reward: -5,
+        first: 2,
+        count: 3,
+    },
+    ChoiceRow {
+        reward: -40,
+        first: 13,
+        count: 1,
+    },
+    ChoiceRow {
+        reward: 0,
+        first: 5,
+        count: 3,
+    },
+    ChoiceRow {
+        reward: -40,
+        first: 13,
+        count: 1,
+    },
+    ChoiceRow {
+        reward: -5,
+        first: 8,
+        count: 3,
+    },
+    ChoiceRow {
+        reward: -40,
+        first: 13,
+        count: 1,
+    },
+    ChoiceRow {
+        reward: -10,
+        first: 11,
+        count: 2,
+    },
+    ChoiceRow {
+        reward: -40,
+        first: 13,
+        count: 1,
+    },
 ];
 
 // The last one recentres: every state shares it.

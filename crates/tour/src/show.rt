@@ -17,7 +17,12 @@ pub(crate) fn print_table<S: Source>(rt: &LibcRuntime, source: &S) -> io::Result
     Ok(())
 }
 
-fn print_choice<S: Source>(rt: &LibcRuntime, source: &S, state: u32, choice: u32) -> io::Result<()> {
+fn print_choice<S: Source>(
+    rt: &LibcRuntime,
+    source: &S,
+    state: u32,
+    choice: u32,
+) -> io::Result<()> {
     let reward = source.reward(state, choice);
     print!(rt, " | {reward} to")?;
     for branch in 0..source.branches(state, choice) {
@@ -37,5 +42,8 @@ pub(crate) fn answer(rt: &LibcRuntime, checked: Result<(), Fault>) -> io::Result
     let state = notice.state;
     let choice = notice.choice;
     let branch = notice.branch;
-    println!(rt, "   refused: {number} at state {state}, choice {choice}, branch {branch}")
+    println!(
+        rt,
+        "   refused: {number} at state {state}, choice {choice}, branch {branch}"
+    )
 }
