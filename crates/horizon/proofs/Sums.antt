@@ -1,16 +1,24 @@
 -- Sums and weighted sums: order, linearity, constants, one term
 use mathlib.Core.Path.{_≡_, refl, sym, ap, ap₂}
 use Prim.Native.Nat.{ℕ, zero, suc, _+_, _*_, _<_, _≤_}
+use native.Mathlib.Numerals.{add-one}
 use native.Mathlib.Omega.{arith}
 use native.Mathlib.Nat.{mul-add, add-mul, mul-left-comm, mul-le-mul-left, mul-le-mul-right, zero-mul, mul-zero}
 use native.Mathlib.Decide.{ℕ-discrete}
-use lib.IntN.{ℤ, pos, _+ℤ_, _*ℤ_}
+use lib.IntN.{ℤ, pos, negℤ, _+ℤ_, _*ℤ_}
 use lib.Signed.{_≤ℤ_}
 use Rattle.table.specs.Sums.{sumN}
-use Rattle.horizon.specs.Sums.{weightedN, weightedZ}
-use Rattle.horizon.proofs.Ring.{lin, none, over, join, swap, mono}
+use Rattle.horizon.specs.Sums.{sumZ, weightedN, weightedZ}
+use Rattle.horizon.proofs.Ring.{lin, none, over, over-neg, join, swap, mono}
 
--- weighted sums of naturals
+-- one more term, as a loop adds it
+pub sumN-more : (k : ℕ) (f : ℕ → ℕ) → sumN (k + 1) f ≡ sumN k f + f k
+sumN-more k f = rw add-one refl
+
+pub sumZ-more : (k : ℕ) (f : ℕ → ℤ) → sumZ (k + 1) f ≡ sumZ k f +ℤ f k
+sumZ-more k f = rw add-one refl
+
+-- weighted sums of naturals: order, linearity, constants
 pub weightedN-mono : (k : ℕ) (w f g : ℕ → ℕ) → ((b : ℕ) → b < k → f b ≤ g b) → weightedN k w f ≤ weightedN k w g
 weightedN-mono zero w f g h = omega arith
 weightedN-mono (suc k) w f g h =
@@ -47,7 +55,7 @@ weightedN-term (suc k) w f b h l =
         let q : w b * f b ≡ w k * f k = ap (λ (i : ℕ). w i * f i) e in
         omega arith
 
--- weighted sums of integers
+-- weighted sums of integers: order, linearity, constants
 pub weightedZ-mono : (k : ℕ) (w : ℕ → ℕ) (f g : ℕ → ℤ) → ((b : ℕ) → b < k → f b ≤ℤ g b) → weightedZ k w f ≤ℤ weightedZ k w g
 weightedZ-mono zero w f g h = omega (arith, lin)
 weightedZ-mono (suc k) w f g h =
@@ -67,10 +75,15 @@ weightedZ-scale (suc k) w f n =
     let e2 = swap (w k) n (f k) in
     omega (arith, lin)
 
+pub weightedZ-neg : (k : ℕ) (w : ℕ → ℕ) (f : ℕ → ℤ) → weightedZ k w (λ b. negℤ (f b)) ≡ negℤ (weightedZ k w f)
+weightedZ-neg zero w f = refl
+weightedZ-neg (suc k) w f = let ih = weightedZ-neg k w f in let e = over-neg (w k) (f k) in omega (arith, lin)
+
 pub weightedZ-const : (k : ℕ) (w : ℕ → ℕ) (z : ℤ) → weightedZ k w (λ b. z) ≡ pos (sumN k w) *ℤ z
 weightedZ-const zero w z = sym (none z)
 weightedZ-const (suc k) w z = let ih = weightedZ-const k w z in let e = join (sumN k w) (w k) z in omega (arith, lin)
 
+-- over naturals it is the natural weighted sum
 pub weightedZ-pos : (k : ℕ) (w f : ℕ → ℕ) → weightedZ k w (λ b. pos (f b)) ≡ pos (weightedN k w f)
 weightedZ-pos zero w f = refl
 weightedZ-pos (suc k) w f = ap (λ (z : ℤ). z +ℤ pos (w k * f k)) (weightedZ-pos k w f)

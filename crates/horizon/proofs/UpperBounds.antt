@@ -1,6 +1,6 @@
 -- The upper theorem: x is the gain of a certificate, and t + B × the potential of the node's depth is its bias
 use mathlib.Core.Path.{_≡_, refl, ap, _∙_}
-use mathlib.Core.List.{List}
+use mathlib.Core.List.{List, _∷_}
 use mathlib.Core.Logic.{inl, inr}
 use Prim.Native.Nat.{ℕ, _+_, _*_, _^_, _<_, _≤_}
 use native.Mathlib.Omega.{arith}
@@ -10,7 +10,7 @@ use lib.Signed.{_≤ℤ_}
 use Rattle.table.specs.Table.{Table, successor, weight}
 use Rattle.table.specs.Limits.{Lawful}
 use Rattle.horizon.specs.Sums.{branchSumN, branchSumZ}
-use Rattle.horizon.specs.Strategies.{Strategy, Names, scaledReward}
+use Rattle.horizon.specs.Strategies.{Strategy, StatesOnly, Names, scaledReward}
 use Rattle.horizon.specs.Certificates.{UpperCertificate}
 use Rattle.horizon.specs.Potential.{potential, RewardsBetween, stepCost, constant}
 use Rattle.horizon.specs.Upper.{InsideChoice, LeavingChoice, UpperHypotheses, UpperTheorem}
@@ -108,11 +108,11 @@ module _ (T : Table) (F D H : ℕ) (low high : ℤ) (node depth : ℕ → ℕ) (
       let a2 = mul-le-mul-left (stepCost F H low high) (below-top (T .denominator) D (depth (node s))) in
       omega arith
 
-  bound : (σ : Strategy) → Names T σ → (N s : ℕ) (past : List ℕ) → s < T .states
+  bound : (σ : Strategy) → Names T σ → (N s : ℕ) (past : List ℕ) → StatesOnly T (s ∷ past)
       → (pos F *ℤ scaledReward T σ N s past) ≤ℤ (pos (T .denominator ^ N) *ℤ ((pos N *ℤ x (node s)) +ℤ pos (constant (T .denominator) F D H low high)))
   bound σ names N s past h =
       let a1 = upper-certificate-bounds T F (λ u. x (node u)) bias law certificate σ names N s past h in
-      let a2 = bias-most s h in
+      let a2 = bias-most s (h .0) in
       let C = constant (T .denominator) F D H low high in
       let g : ℤ = pos N *ℤ x (node s) in
       let a3 : (g +ℤ pos (bias s)) ≤ℤ (g +ℤ pos C) = omega (arith, lin) in

@@ -9,7 +9,7 @@ use lib.Signed.{_≤ℤ_}
 use Rattle.table.specs.Table.{Table, successor, weight}
 use Rattle.table.specs.Limits.{Lawful}
 use Rattle.horizon.specs.Sums.{weightedZ, branchSumN, branchSumZ}
-use Rattle.horizon.specs.Strategies.{Strategy, Names, scaledReward}
+use Rattle.horizon.specs.Strategies.{Strategy, StatesOnly, Names, scaledReward}
 use Rattle.horizon.specs.Certificates.{UpperCertificate, UpperCertificateBounds}
 use Rattle.horizon.proofs.Ring.{lin, none, more, once, over, times, swap, mono}
 use Rattle.horizon.proofs.Sums.{weightedZ-mono, weightedZ-add, weightedZ-scale, weightedZ-pos}
@@ -73,7 +73,7 @@ module _ (T : Table) (F : ℕ) (g : ℕ → ℤ) (d : ℕ → ℕ) (law : Lawful
       let e4 = weightedZ-mono k w (λ b. pos F *ℤ scaledReward T σ N (next b) past) (λ b. pos P *ℤ ((pos N *ℤ g (next b)) +ℤ pos (d (next b)))) h in
       omega (arith, lin)
 
-  bound : (N s : ℕ) (past : List ℕ) → s < T .states → Bound N s past
+  bound : (N s : ℕ) (past : List ℕ) → StatesOnly T (s ∷ past) → Bound N s past
   unfolding Bound
   bound zero s past h =
       let z : ℤ = (pos 0 *ℤ g s) +ℤ pos (d s) in
@@ -85,11 +85,12 @@ module _ (T : Table) (F : ℕ) (g : ℕ → ℤ) (d : ℕ → ℕ) (law : Lawful
   bound (suc N) s past h =
       let c = σ (s ∷ past) in
       let named : c < T .choices s = names s past h in
+      let here : s < T .states = h .0 in
       let P = T .denominator ^ N in
-      let earns = behind-up N s c (s ∷ past) (λ b l. bound N (successor T s c b) (s ∷ past) (law .successors s c b h named l)) in
+      let earns = behind-up N s c (s ∷ past) (λ b l. bound N (successor T s c b) (s ∷ past) (law .successors s c b here named l, h)) in
       rw (pow-suc (T .denominator) N)
       (one-step F P (T .denominator) N (branchSumN T s c d) (d s) (T .reward s c) (branchSumZ T s c (λ u. scaledReward T σ N u (s ∷ past))) (branchSumZ T s c g) (g s)
-      earns (cert .gain s c h named) (cert .bias s c h named))
+      earns (cert .gain s c here named) (cert .bias s c here named))
 
 pub upper-certificate-bounds : UpperCertificateBounds
 unfolding Bound

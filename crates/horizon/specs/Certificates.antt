@@ -1,13 +1,13 @@
 -- Certificates: numbers for each state that bound the scaled reward over every horizon.
 -- In both, F is the scale, g(s) the gain of a state (its reward per step, times F) and d(s) its bias, which is never negative.
-use mathlib.Core.List.{List}
+use mathlib.Core.List.{List, _∷_}
 use Prim.Native.Nat.{ℕ, _*_, _^_, _<_}
 use lib.IntN.{ℤ, pos, _+ℤ_, _-ℤ_, _*ℤ_}
 use lib.Signed.{_≤ℤ_}
 use Rattle.table.specs.Table.{Table}
 use Rattle.table.specs.Limits.{Lawful}
 use Rattle.horizon.specs.Sums.{branchSumN, branchSumZ}
-use Rattle.horizon.specs.Strategies.{Strategy, Names, Plan, PlanNames, follow, scaledReward}
+use Rattle.horizon.specs.Strategies.{Strategy, StatesOnly, Names, Plan, PlanNames, follow, scaledReward}
 
 -- An upper certificate, for every choice of every state s.
 pub record UpperCertificate (T : Table) (F : ℕ) (g : ℕ → ℤ) (d : ℕ → ℕ) : Type 0 where
@@ -29,7 +29,7 @@ pub record LowerCertificate (T : Table) (F : ℕ) (p : Plan) (g : ℕ → ℤ) (
 -- An upper certificate bounds every strategy over every horizon: F × V ≤ W^N × (N × g(s) + d(s)).
 abbrev pub UpperCertificateBounds : Type 0
 UpperCertificateBounds = (T : Table) (F : ℕ) (g : ℕ → ℤ) (d : ℕ → ℕ) → Lawful T → UpperCertificate T F g d
-    → (σ : Strategy) → Names T σ → (N s : ℕ) (past : List ℕ) → s < T .states
+    → (σ : Strategy) → Names T σ → (N s : ℕ) (past : List ℕ) → StatesOnly T (s ∷ past)
     → (pos F *ℤ scaledReward T σ N s past) ≤ℤ (pos (T .denominator ^ N) *ℤ ((pos N *ℤ g s) +ℤ pos (d s)))
 
 -- A lower certificate bounds its plan over every horizon: W^N × (N × g(s) - d(s)) ≤ F × V.

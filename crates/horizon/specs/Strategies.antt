@@ -11,9 +11,14 @@ use Rattle.horizon.specs.Sums.{branchSumZ}
 abbrev pub Strategy : Type 0
 Strategy = List ℕ → ℕ
 
--- the strategy names an existing choice of the present state, whatever was before
+-- every number of the list is a state of the table
+abbrev pub StatesOnly : Table → List ℕ → Type 0
+StatesOnly T [] = Unit {0}
+StatesOnly T (s ∷ past) = (s < T .states) × StatesOnly T past
+
+-- the strategy names an existing choice of the present state for every list of states up to it
 abbrev pub Names : Table → Strategy → Type 0
-Names T σ = (s : ℕ) (past : List ℕ) → s < T .states → σ (s ∷ past) < T .choices s
+Names T σ = (s : ℕ) (past : List ℕ) → StatesOnly T (s ∷ past) → σ (s ∷ past) < T .choices s
 
 -- A memoryless plan gives a choice for each state.
 abbrev pub Plan : Type 0

@@ -1,6 +1,6 @@
 -- The upper theorem: values of nodes, vectors of components and depths of nodes bound every strategy over every horizon.
 use mathlib.Core.Path.{_≡_}
-use mathlib.Core.List.{List}
+use mathlib.Core.List.{List, _∷_}
 use mathlib.Core.Logic.{_⊎_}
 use Prim.Native.Nat.{ℕ, _*_, _^_, _<_, _≤_}
 use lib.IntN.{ℤ, pos, _+ℤ_, _*ℤ_}
@@ -8,7 +8,7 @@ use lib.Signed.{_≤ℤ_}
 use Rattle.table.specs.Table.{Table, successor}
 use Rattle.table.specs.Limits.{Lawful}
 use Rattle.horizon.specs.Sums.{branchSumN, branchSumZ}
-use Rattle.horizon.specs.Strategies.{Strategy, Names, scaledReward}
+use Rattle.horizon.specs.Strategies.{Strategy, StatesOnly, Names, scaledReward}
 use Rattle.horizon.specs.Potential.{Descends, RewardsBetween, constant}
 
 -- The choice c of s is inside: all its branches stay in the node of s.
@@ -34,6 +34,6 @@ pub record UpperHypotheses (T : Table) (F D H : ℕ) (low : ℤ) (node depth : �
 abbrev pub UpperTheorem : Type 0
 UpperTheorem = (T : Table) (F D H : ℕ) (low high : ℤ) (node depth : ℕ → ℕ) (x : ℕ → ℤ) (t : ℕ → ℕ)
     → Lawful T → RewardsBetween T low high → UpperHypotheses T F D H low node depth x t
-    → (σ : Strategy) → Names T σ → (N s : ℕ) (past : List ℕ) → s < T .states
+    → (σ : Strategy) → Names T σ → (N s : ℕ) (past : List ℕ) → StatesOnly T (s ∷ past)
     → (pos F *ℤ scaledReward T σ N s past)
     ≤ℤ (pos (T .denominator ^ N) *ℤ ((pos N *ℤ x (node s)) +ℤ pos (constant (T .denominator) F D H low high)))
