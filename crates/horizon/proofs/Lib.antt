@@ -6,4 +6,7 @@ pub mod LowerCertificates
 pub mod Potentials
 pub mod UpperBounds
 pub mod LowerBounds
+pub mod Rounding
+pub mod Quotients
+pub mod Means
 pub mod Examples

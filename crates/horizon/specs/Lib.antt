@@ -4,4 +4,5 @@ pub mod Certificates
 pub mod Potential
 pub mod Upper
 pub mod Lower
+pub mod Means
 pub mod Example

@@ -1,5 +1,7 @@
 // What certificates, depths and plans say of the scaled reward over every horizon.
 // Each function of this crate stands for one theorem: its contract is the theorem, and it answers the theorem's number.
+mod side;
+
 ghost use mathlib.Core.Path.{_≡_};
 ghost use lib.IntN.{pos};
 ghost use Rattle.horizon.specs.Certificates.{UpperCertificateBounds, LowerCertificateBounds};
