@@ -10,6 +10,7 @@ use Rattle.table.specs.Limits.{ChoicesWithin, RewardWithin, BranchesWithin, Suc
 use Rattle.horizon.specs.Sums.{branchSumN, branchSumZ}
 use Rattle.horizon.specs.Strategies.{Names}
 use Rattle.horizon.specs.Certificates.{UpperCertificate, LowerCertificate}
+use Rattle.horizon.specs.Means.{roundDown, roundUp}
 use Rattle.horizon.specs.Example.{choicesAt, rewardAt, branchesAt, example, lookback, examplePlan, upperBias, lowerBias, WorkedExample}
 
 choices : (s : ℕ) → s < 2 → ChoicesWithin example s
@@ -92,4 +93,5 @@ lower = record { gain = gain; bias = bias }
     bias (suc s) h = leZ-yes tt
 
 pub worked-example : WorkedExample
-worked-example = record { lawful = lawful; names = names; over0 = refl; over1 = refl; over2 = refl; upper = upper; lower = lower }
+unfolding roundDown roundUp
+worked-example = record { lawful = lawful; names = names; over0 = refl; over1 = refl; over2 = refl; upper = upper; lower = lower; means = (refl, refl); negated = (refl, refl) }

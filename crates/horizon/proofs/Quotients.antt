@@ -77,7 +77,7 @@ module _ (z : ℤ) (W : ℕ) (h : 1 ≤ W) (fits : SFits w64 z) where
   pub down-fits : SFits w64 (roundDown z W)
   down-fits = let a = down-least in let b = up-greatest in let o = ordered in omega (arith, ints)
 
-quotient-fits : (z : ℤ) (W : ℕ) → SFits w64 z → SFits w64 (quotZ z (pos W))
+pub quotient-fits : (z : ℤ) (W : ℕ) → SFits w64 z → SFits w64 (quotZ z (pos W))
 quotient-fits (pos a) W f = let l = div-le-self a W in omega (arith, ints)
 quotient-fits (negsuc a) W f = let l = div-le-self (suc a) W in omega (arith, ints)
 

@@ -1,4 +1,4 @@
--- The scaled reward and two certificates worked by hand, on two states and a strategy that looks at the past.
+-- The scaled reward, two certificates and rounded means worked by hand, on two states and a strategy that looks at the past.
 -- W is 2. State 0: choice 0 has reward 1 and branches 0:1, 1:1; choice 1 has reward 5 and the branch 1:2.
 -- State 1: its one choice has reward -1 and the branch 0:2. (Branches are written successor:weight.)
 use mathlib.Core.Path.{_≡_}
@@ -9,6 +9,7 @@ use Rattle.table.specs.Table.{Table}
 use Rattle.table.specs.Limits.{Lawful}
 use Rattle.horizon.specs.Strategies.{Strategy, Names, Plan, scaledReward}
 use Rattle.horizon.specs.Certificates.{UpperCertificate, LowerCertificate}
+use Rattle.horizon.specs.Means.{roundDown, roundUp, mean}
 
 abbrev pub choicesAt : ℕ → ℕ
 choicesAt zero = 2
@@ -54,6 +55,14 @@ abbrev pub lowerBias : ℕ → ℕ
 lowerBias zero = 0
 lowerBias (suc s) = 3
 
+-- numbers of the two states, and the same negated
+abbrev pub numberAt : ℕ → ℤ
+numberAt zero = pos 1
+numberAt (suc s) = pos 2
+
+abbrev pub negatedAt : ℕ → ℤ
+negatedAt s = negℤ (numberAt s)
+
 -- V over N steps from state 0
 abbrev pub exampleReward : ℕ → ℤ
 exampleReward N = scaledReward example lookback N 0 []
@@ -72,3 +81,6 @@ pub record WorkedExample : Type 0 where
   pub over2 : exampleReward 2 ≡ pos 12
   pub upper : UpperCertificate example 1 (λ s. pos 2) upperBias
   pub lower : LowerCertificate example 1 examplePlan (λ s. pos 2) lowerBias
+  -- the mean of 1 and 2 after choice 0 of state 0 is 3 / 2, from 1 to 2; that of -1 and -2 is -3 / 2, from -2 to -1
+  pub means : (mean roundDown example 0 0 numberAt ≡ pos 1) × (mean roundUp example 0 0 numberAt ≡ pos 2)
+  pub negated : (mean roundDown example 0 0 negatedAt ≡ negℤ (pos 2)) × (mean roundUp example 0 0 negatedAt ≡ negℤ (pos 1))

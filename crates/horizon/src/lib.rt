@@ -1,7 +1,12 @@
-// What certificates, depths and plans say of the scaled reward over every horizon.
-// Each function of this crate stands for one theorem: its contract is the theorem, and it answers the theorem's number.
+// What certificates, depths and plans say of the scaled reward over every horizon, and the two sides of a mean.
+// Each function below stands for one theorem: its contract is the theorem, and it answers the theorem's number.
 mod side;
 
+pub use side::LowerSide;
+pub use side::RoundsDown;
+pub use side::RoundsUp;
+pub use side::Side;
+pub use side::UpperSide;
 ghost use mathlib.Core.Path.{_≡_};
 ghost use lib.IntN.{pos};
 ghost use Rattle.horizon.specs.Certificates.{UpperCertificateBounds, LowerCertificateBounds};

@@ -46,7 +46,11 @@ pub impl Side for UpperSide as RoundsUp {
         }
         let divisor = i64::from(denominator);
         let whole = total / divisor;
-        if total % divisor > 0 { whole + 1 } else { whole }
+        if total % divisor > 0 {
+            whole + 1
+        } else {
+            whole
+        }
     }
 }
 
@@ -61,6 +65,10 @@ pub impl Side for LowerSide as RoundsDown {
         }
         let divisor = i64::from(denominator);
         let whole = total / divisor;
-        if total % divisor < 0 { whole - 1 } else { whole }
+        if total % divisor < 0 {
+            whole - 1
+        } else {
+            whole
+        }
     }
 }
