@@ -1,11 +1,10 @@
 -- The worked example: the limits, the strategy, the numbers and the two certificates, by computation
-use mathlib.Core.Path.{_≡_, refl}
-use mathlib.Core.List.{List, [], _∷_}
-use Prim.Native.Nat.{ℕ, zero, suc, _*_, _<_, _≤_}
+use mathlib.Core.Path.{refl}
+use mathlib.Core.List.{[], _∷_}
+use Prim.Native.Nat.{ℕ, zero, suc, _*_, _<_}
 use native.Mathlib.Omega.{arith}
 use lib.IntN.{ℤ, pos, _+ℤ_, _*ℤ_}
 use lib.Signed.{_≤ℤ_, leZ-yes}
-use Rattle.table.specs.Table.{successor}
 use Rattle.table.specs.Limits.{ChoicesWithin, RewardWithin, BranchesWithin, SuccessorWithin, WeightPresent, SuccessorNew, WeightsComplete, Lawful}
 use Rattle.horizon.specs.Sums.{branchSumN, branchSumZ}
 use Rattle.horizon.specs.Strategies.{Names}

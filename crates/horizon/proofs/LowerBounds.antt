@@ -17,7 +17,7 @@ use Rattle.horizon.specs.Lower.{StayingState, MovingState, LowerHypotheses, Lo
 use Rattle.horizon.proofs.Ring.{lin, over, times, mono, apart}
 use Rattle.horizon.proofs.Sums.{weightedN-mono, weightedN-add, weightedN-cong, weightedZ-cong}
 use Rattle.horizon.proofs.LowerCertificates.{lower-certificate-bounds}
-use Rattle.horizon.proofs.Potentials.{bottom, below-top, falls, pays}
+use Rattle.horizon.proofs.Potentials.{bottom, below-top, falls, covers}
 use Rattle.horizon.proofs.Branches.{branchSumN-const, branchSumZ-const, branchSumN-mix}
 
 -- y is at most a reward + R, F-fold
@@ -103,7 +103,7 @@ module _ (T : Table) (F D H : ℕ) (low high : ℤ) (p : Plan) (depth : ℕ → 
       let a3 = branchSumN-const T law s c h (plans s h) H in
       let a4 : branchSumN T s c lacks ≤ W * H = omega arith in
       let a5 = under-most W F R (T .reward s c) (y s) low high (rewards s c h (plans s h) .0) (apart low high) (hypotheses .values s h) in
-      let a6 = pays W (F * R) H (branchSumN T s c lacks) B (branchSumN T s c level) (level s) a1 a4 refl in
+      let a6 = covers W (F * R) H (branchSumN T s c lacks) B (branchSumN T s c level) (level s) a1 a4 refl in
       rw (branchSumN-mix T s c B lacks level)
       (moving-bias W F (F * R) (branchSumN T s c lacks) B (branchSumN T s c level) (lacks s) (level s) (T .reward s c) (y s) a5 a6)
 

@@ -73,9 +73,9 @@ drops k W top e₀ R w e r b sums parts part l weighs high =
     let a7 = mul-add W e₀ R in
     omega arith
 
--- where the mean of the potential e falls by one, B × e pays for S + H
-pub pays : (W S H M B Me e : ℕ) → Me + W ≤ W * e → M ≤ W * H → B ≡ S + H → W * S + (M + B * Me) ≤ W * (B * e)
-pays W S H M B Me e drop small is =
+-- where the mean of the potential e falls by one, B × e covers S + H
+pub covers : (W S H M B Me e : ℕ) → Me + W ≤ W * e → M ≤ W * H → B ≡ S + H → W * S + (M + B * Me) ≤ W * (B * e)
+covers W S H M B Me e drop small is =
     let b1 = mul-le-mul-left B drop in
     let b2 = mul-add B Me W in
     let b3 = mul-left-comm B W e in

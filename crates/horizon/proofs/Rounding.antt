@@ -1,13 +1,13 @@
 -- The two roundings of z / W: W × (the one below) ≤ z < W × (the one below) + W, and its mirror.
 use mathlib.Core.Path.{_≡_, refl, ap}
 use mathlib.Core.Logic.{⊎-elim}
-use Prim.Native.Nat.{ℕ, zero, suc, _+_, _*_, _/_, _%_, _<_, _≤_}
+use Prim.Native.Nat.{ℕ, zero, suc, _+_, _*_, _/_, _<_, _≤_}
 use native.Mathlib.Omega.{arith}
-use native.Mathlib.Nat.{mul-div-le, lt-div-mul-add, mul-suc, mul-comm, mul-one, mul-le-mul-right}
+use native.Mathlib.Nat.{mul-div-le, lt-div-mul-add, mul-suc, mul-comm, mul-one}
 use lib.IntN.{ℤ, pos, negsuc, negℤ, _+ℤ_, _*ℤ_}
 use lib.Signed.{_≤ℤ_, _<ℤ_}
 use Rattle.horizon.specs.Means.{roundDown, roundUp}
-use Rattle.horizon.proofs.Ring.{lin, over, over-neg, mono, cancel, cases-Z}
+use Rattle.horizon.proofs.Ring.{lin, over, over-neg, mono, cases-Z}
 
 rest : (a W : ℕ) → 1 ≤ W → a < W * (a / W) + W
 rest a W h = let e = lt-div-mul-add {a = a} {b = W} h in let c = mul-comm (a / W) W in omega arith

@@ -18,7 +18,7 @@ use Rattle.horizon.proofs.Ring.{lin, over, times, mono, apart}
 use Rattle.horizon.proofs.Sums.{weightedN-mono, weightedN-cong, weightedZ-cong}
 use Rattle.horizon.proofs.UpperCertificates.{upper-certificate-bounds}
 use Rattle.horizon.proofs.Branches.{branchSumN-const, branchSumZ-const, branchSumN-mix}
-use Rattle.horizon.proofs.Potentials.{below-top, falls, pays}
+use Rattle.horizon.proofs.Potentials.{below-top, falls, covers}
 
 inside-bias : (W F B Mt Me t e : ℕ) (r x : ℤ) → Me ≡ W * e
     → ((pos (W * F) *ℤ r) +ℤ pos Mt) ≤ℤ (pos W *ℤ (x +ℤ pos t))
@@ -90,7 +90,7 @@ module _ (T : Table) (F D H : ℕ) (low high : ℤ) (node depth : ℕ → ℕ) (
       let a3 = branchSumN-const T law s c h k H in
       let a4 : branchSumN T s c t ≤ W * H = omega arith in
       let a5 = over-least W F R (T .reward s c) (x (node s)) low high (rewards s c h k .1) (apart low high) (hypotheses .values s h) in
-      let a6 = pays W (F * R) H (branchSumN T s c t) B (branchSumN T s c level) (level s) a1 a4 refl in
+      let a6 = covers W (F * R) H (branchSumN T s c t) B (branchSumN T s c level) (level s) a1 a4 refl in
       rw (branchSumN-mix T s c B t level)
       (leaving-bias W F (F * R) (branchSumN T s c t) B (branchSumN T s c level) (t s) (level s) (T .reward s c) (x (node s)) a5 a6)
 

@@ -2,7 +2,7 @@
 -- W is 2. State 0: choice 0 has reward 1 and branches 0:1, 1:1; choice 1 has reward 5 and the branch 1:2.
 -- State 1: its one choice has reward -1 and the branch 0:2. (Branches are written successor:weight.)
 use mathlib.Core.Path.{_≡_}
-use mathlib.Core.List.{List, [], _∷_}
+use mathlib.Core.List.{[], _∷_}
 use Prim.Native.Nat.{ℕ, zero, suc}
 use lib.IntN.{ℤ, pos, negℤ}
 use Rattle.table.specs.Table.{Table}
