@@ -110,8 +110,8 @@ module _ (T : Table) (F D H : ℕ) (low high : ℤ) (p : Plan) (depth : ℕ → 
   certificate : LowerCertificate T F p y bias
   unfolding Biased
   certificate = record {
-    gain = λ s h. elim (hypotheses .each s h) [ inl i ↦ gain-staying s h i | inr m ↦ m .gain ];
-    bias = λ s h. elim (hypotheses .each s h) [ inl i ↦ bias-staying s h i | inr m ↦ bias-moving s h m ];
+    gain = λ s h. elim (hypotheses .states s h) [ inl i ↦ gain-staying s h i | inr m ↦ m .gain ];
+    bias = λ s h. elim (hypotheses .states s h) [ inl i ↦ bias-staying s h i | inr m ↦ bias-moving s h m ];
   }
 
   bias-most : (s : ℕ) → bias s ≤ constant (T .denominator) F D H low high

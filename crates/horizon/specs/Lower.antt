@@ -30,7 +30,7 @@ pub record LowerHypotheses (T : Table) (F D H : ℕ) (high : ℤ) (p : Plan) (de
   pub depths : (s : ℕ) → s < T .states → depth s ≤ D
   pub vectors : (s : ℕ) → s < T .states → depth s ≡ 0 → t s ≤ H
   pub values : (s : ℕ) → s < T .states → y s ≤ℤ (pos F *ℤ high)
-  pub each : (s : ℕ) → s < T .states → StayingState T F p depth y t s ⊎ MovingState T p depth y s
+  pub states : (s : ℕ) → s < T .states → StayingState T F p depth y t s ⊎ MovingState T p depth y s
 
 -- W^N × (N × y(s) - C(D)) ≤ F × V of the plan, for every N
 abbrev pub LowerTheorem : Type 0
