@@ -9,19 +9,42 @@ pub enum Fault {
     // the denominator
     Denominator,
     // the number of choices of a state
-    Choices { state: u32 },
+    Choices {
+        state: u32,
+    },
     // the reward of a choice
-    Reward { state: u32, choice: u32 },
+    Reward {
+        state: u32,
+        choice: u32,
+    },
     // the number of branches of a choice
-    Branches { state: u32, choice: u32 },
+    Branches {
+        state: u32,
+        choice: u32,
+    },
     // a branch whose successor is no state
-    Successor { state: u32, choice: u32, branch: u32 },
+    Successor {
+        state: u32,
+        choice: u32,
+        branch: u32,
+    },
     // a branch of weight 0
-    Weight { state: u32, choice: u32, branch: u32 },
+    Weight {
+        state: u32,
+        choice: u32,
+        branch: u32,
+    },
     // a branch whose successor an earlier branch of the choice has
-    Repeated { state: u32, choice: u32, branch: u32 },
+    Repeated {
+        state: u32,
+        choice: u32,
+        branch: u32,
+    },
     // a choice whose weights do not add up to the denominator
-    Sum { state: u32, choice: u32 },
+    Sum {
+        state: u32,
+        choice: u32,
+    },
 }
 
 // A fault as it is reported: its number and its place, with 0 for what was not reached.
@@ -36,7 +59,12 @@ pub struct Notice {
 fn noted(number: u32, state: u32, choice: u32, branch: u32) -> Notice
     ensures { λ r. ⌜ (r .number ≡ number) × (r .state ≡ state) × (r .choice ≡ choice) × (r .branch ≡ branch) ⌝ }
 {
-    Notice { number, state, choice, branch }
+    Notice {
+        number,
+        state,
+        choice,
+        branch,
+    }
 }
 
 impl Fault {
@@ -49,9 +77,21 @@ impl Fault {
             Fault::Choices { state } => noted(13, state, 0, 0),
             Fault::Reward { state, choice } => noted(14, state, choice, 0),
             Fault::Branches { state, choice } => noted(15, state, choice, 0),
-            Fault::Successor { state, choice, branch } => noted(16, state, choice, branch),
-            Fault::Weight { state, choice, branch } => noted(17, state, choice, branch),
-            Fault::Repeated { state, choice, branch } => noted(18, state, choice, branch),
+            Fault::Successor {
+                state,
+                choice,
+                branch,
+            } => noted(16, state, choice, branch),
+            Fault::Weight {
+                state,
+                choice,
+                branch,
+            } => noted(17, state, choice, branch),
+            Fault::Repeated {
+                state,
+                choice,
+                branch,
+            } => noted(18, state, choice, branch),
             Fault::Sum { state, choice } => noted(19, state, choice, 0),
         }
     }

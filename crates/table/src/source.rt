@@ -2,14 +2,14 @@ ghost use mathlib.Core.Path.{_≡_};
 ghost use Rattle.table.specs.Table.{Table, ZeroOutside};
 
 // A source stands for one table, which may break the limits, and answers six questions from it.
-// No question is refused, and asking alters nothing; outside the table each number is 0.
+// No question is refused, and asking twice gives the same answer and alters nothing.
 pub trait Source {
     ghost table: { Self → Table };
 
-    law outside: { (x : Self) → ZeroOutside (table x) };
-
+    // How many states there are. This answer also promises that outside the table each number is 0.
     fn states(&self) -> u32
-        ensures { λ r. ⌜ r ≡ table (now (self .entry)) .states ⌝ };
+        ensures value { λ r. ⌜ r ≡ table (now (self .entry)) .states ⌝ }
+        ensures outside { λ _. ⌜ ZeroOutside (table (now (self .entry))) ⌝ };
 
     fn denominator(&self) -> u32
         ensures { λ r. ⌜ r ≡ table (now (self .entry)) .denominator ⌝ };

@@ -8,9 +8,13 @@ use crate::fault::Fault;
 use crate::source::Source;
 
 const MOST_STATES: u32 = 256;
+
 const MOST_DENOMINATOR: u32 = 65_536;
+
 const MOST_CHOICES: u32 = 16;
+
 const MOST_REWARD: i32 = 1_000_000;
+
 const MOST_BRANCHES: u32 = 8;
 
 // The first broken limit of the source's table, or none: then the table is lawful.
@@ -86,13 +90,25 @@ fn branch_fault<S: Source>(source: &S, state: u32, choice: u32, branch: u32) -> 
 {
     let (successor, weight) = source.branch(state, choice, branch);
     if successor >= source.states() {
-        return Some(Fault::Successor { state, choice, branch });
+        return Some(Fault::Successor {
+            state,
+            choice,
+            branch,
+        });
     }
     if weight == 0 {
-        return Some(Fault::Weight { state, choice, branch });
+        return Some(Fault::Weight {
+            state,
+            choice,
+            branch,
+        });
     }
     if leads_to(source, state, choice, branch, successor) {
-        return Some(Fault::Repeated { state, choice, branch });
+        return Some(Fault::Repeated {
+            state,
+            choice,
+            branch,
+        });
     }
     None
 }
