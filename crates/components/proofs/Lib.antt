@@ -1,0 +1,11 @@
+pub mod Below
+pub mod Settles
+pub mod Reach
+pub mod Reversible
+pub mod Classes
+pub mod Numbering
+pub mod Components
+pub mod Nodes
+pub mod Trap
+pub mod Depth
+pub mod Law
