@@ -1,0 +1,9 @@
+pub mod Choosing
+pub mod Setting
+pub mod Book
+pub mod Refine
+pub mod Sweep
+pub mod Layers
+pub mod Play
+pub mod Runs
+pub mod Promises

@@ -1,0 +1,4 @@
+// The rules of refine, sweep and plan as definitions, and what every book that they lead to keeps.
+mod exit;
+
+pub use exit::Exit;
