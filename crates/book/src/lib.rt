@@ -1,0 +1,3 @@
+// The engine's plain inner numbers and the code that works on them.
+mod frame;
+mod mean;
