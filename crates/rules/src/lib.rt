@@ -1,4 +1,5 @@
 // The rules of refine, sweep and plan as definitions, and what every book that they lead to keeps.
 mod exit;
 
+pub use exit::Candidate;
 pub use exit::Exit;
