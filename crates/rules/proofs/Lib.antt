@@ -1,0 +1,9 @@
+pub mod Order
+pub mod Places
+pub mod Choosing
+pub mod Nodes
+pub mod Sides
+pub mod StepFacts
+pub mod Certificates
+pub mod Steps
+pub mod SoundSteps

@@ -5,5 +5,7 @@ pub mod Refine
 pub mod Sweep
 pub mod Layers
 pub mod Play
+pub mod Fit
+pub mod Sound
 pub mod Runs
 pub mod Promises
