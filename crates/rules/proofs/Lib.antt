@@ -7,3 +7,6 @@ pub mod StepFacts
 pub mod Certificates
 pub mod Steps
 pub mod SoundSteps
+pub mod Start
+pub mod Candidates
+pub mod Updates

@@ -3,6 +3,7 @@ pub mod Setting
 pub mod Book
 pub mod Refine
 pub mod Sweep
+pub mod Candidates
 pub mod Layers
 pub mod Play
 pub mod Fit
