@@ -10,3 +10,5 @@ pub mod SoundSteps
 pub mod Start
 pub mod Candidates
 pub mod Updates
+pub mod UpdateX
+pub mod UpdateY
