@@ -1,0 +1,14 @@
+pub mod Order
+pub mod Places
+pub mod Choosing
+pub mod Nodes
+pub mod Sides
+pub mod StepFacts
+pub mod Certificates
+pub mod Steps
+pub mod SoundSteps
+pub mod Start
+pub mod Candidates
+pub mod Updates
+pub mod UpdateX
+pub mod UpdateY
