@@ -1,4 +1,7 @@
 // The engine's plain inner numbers and the code that works on them.
 mod best;
+mod book;
 mod frame;
 mod mean;
+
+pub use book::Book;

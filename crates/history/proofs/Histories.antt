@@ -101,17 +101,17 @@ module _ (T : Table) (B : Book) where
   plan-is list written e s h =
       elim (cases-bool (leb (T .states) (length list))) [
         | inl a ↦ (
-          let q : planAnswer T B list ≡ planned written =
-          sym (cond-true (leb (T .states) (length list)) (planAnswer T B list) (refused refusal.Room) a) ∙ e in
-          let w : tabulate (T .states) (play T B) ++ drop (T .states) list ≡ written = cc in
-          ap (λ (xs : List ℕ). getD xs s 0) (sym w)
-          ∙ getD-append-left (tabulate (T .states) (play T B)) (drop (T .states) list) 0 s
-          (let l = length-map-counting (play T B) 0 (T .states) in omega arith)
-          ∙ getD-map-counting (play T B) 0 (T .states) s s 0 h (omega arith))
+            let q : planAnswer T B list ≡ planned written =
+            sym (cond-true (leb (T .states) (length list)) (planAnswer T B list) (refused refusal.Room) a) ∙ e in
+            let w : tabulate (T .states) (play T B) ++ drop (T .states) list ≡ written = cc in
+            ap (λ (xs : List ℕ). getD xs s 0) (sym w)
+            ∙ getD-append-left (tabulate (T .states) (play T B)) (drop (T .states) list) 0 s
+            (let l = length-map-counting (play T B) 0 (T .states) in omega arith)
+            ∙ getD-map-counting (play T B) 0 (T .states) s s 0 h (omega arith))
         | inr a ↦ (
-          let q : refused refusal.Room ≡ planned written =
-          sym (cond-false (leb (T .states) (length list)) (planAnswer T B list) (refused refusal.Room) a) ∙ e in
-          let z : _≡_ {A = ℕ} 0 1 = cc in absurd (omega arith))
+            let q : refused refusal.Room ≡ planned written =
+            sym (cond-false (leb (T .states) (length list)) (planAnswer T B list) (refused refusal.Room) a) ∙ e in
+            let z : _≡_ {A = ℕ} 0 1 = cc in absurd (omega arith))
       ]
 
 -- Opens
@@ -163,9 +163,9 @@ module _ (Sound : Table → Book → Type 0) (keeps : Keeps Sound) where
   good-call T B (refines k n width) g =
       elim (cases-bool (ltb k (components T) && counts n)) [
         | inl a ↦ (
-          let l = ltb-true k (components T) (and-parts (ltb k (components T)) (counts n) a .0) in
-          subst Good (sym (cond-true (ltb k (components T) && counts n) (loaded T (refine (settingOf T) k n width B .book)) (loaded T B) a))
-          (g .0, keeps .refining T (g .0) B (g .1) k n width l .0))
+            let l = ltb-true k (components T) (and-parts (ltb k (components T)) (counts n) a .0) in
+            subst Good (sym (cond-true (ltb k (components T) && counts n) (loaded T (refine (settingOf T) k n width B .book)) (loaded T B) a))
+            (g .0, keeps .refining T (g .0) B (g .1) k n width l .0))
         | inr a ↦ subst Good (sym (cond-false (ltb k (components T) && counts n) (loaded T (refine (settingOf T) k n width B .book)) (loaded T B) a)) g
       ]
   good-call T B (sweeping n) g =
@@ -264,19 +264,19 @@ module _ (Sound : Table → Book → Type 0) (keeps : Keeps Sound) where
       let made = refine (settingOf T) k m width B .book in
       elim (cases-bool both) [
         | inl a ↦ (
-          let l = ltb-true k (components T) (and-parts (ltb k (components T)) (counts m) a .0) in
-          let r = keeps .refining T (g .0) B (g .1) k m width l in
-          subst (Onward T B) (sym (cond-true both (loaded T made) (loaded T B) a))
-          (record { book = made; held = refl; good = (g .0, r .0); tighter = r .1 }))
+            let l = ltb-true k (components T) (and-parts (ltb k (components T)) (counts m) a .0) in
+            let r = keeps .refining T (g .0) B (g .1) k m width l in
+            subst (Onward T B) (sym (cond-true both (loaded T made) (loaded T B) a))
+            (record { book = made; held = refl; good = (g .0, r .0); tighter = r .1 }))
         | inr a ↦ subst (Onward T B) (sym (cond-false both (loaded T made) (loaded T B) a)) (stays T B g)
       ]
   quiet-call T B g (sweeping m) n =
       let made = sweeps (settingOf T) m B .book in
       elim (cases-bool (counts m)) [
         | inl a ↦ (
-          let r = keeps .sweeping T (g .0) B (g .1) m in
-          subst (Onward T B) (sym (cond-true (counts m) (loaded T made) (loaded T B) a))
-          (record { book = made; held = refl; good = (g .0, r .0); tighter = r .1 }))
+            let r = keeps .sweeping T (g .0) B (g .1) m in
+            subst (Onward T B) (sym (cond-true (counts m) (loaded T made) (loaded T B) a))
+            (record { book = made; held = refl; good = (g .0, r .0); tighter = r .1 }))
         | inr a ↦ subst (Onward T B) (sym (cond-false (counts m) (loaded T made) (loaded T B) a)) (stays T B g)
       ]
   quiet-call T B g close n = absurd (n refl)
@@ -296,11 +296,12 @@ module _ (Sound : Table → Book → Type 0) (keeps : Keeps Sound) where
   tighter-answers T A B t = record {
     states = λ s v w h L U L′ U′ mark mark′ p q.
         let a = quote-is T A s v L U mark h p in
-        let b = quote-is T B s w L′ U′ mark′ h q in
-        (le-trans L (lowerAt (settingOf T) A s) L′ (le-same L (lowerAt (settingOf T) A s) (sym (a .0)))
-        (le-trans (lowerAt (settingOf T) A s) (lowerAt (settingOf T) B s) L′ (t .lower s h) (le-same (lowerAt (settingOf T) B s) L′ (b .0))),
-        le-trans U′ (upperAt (settingOf T) B s) U (le-same U′ (upperAt (settingOf T) B s) (sym (b .1)))
-        (le-trans (upperAt (settingOf T) B s) (upperAt (settingOf T) A s) U (t .upper s h) (le-same (upperAt (settingOf T) A s) U (a .1))));
+        let b = quote-is T B s w L′ U′ mark′ h q in (
+          le-trans L (lowerAt (settingOf T) A s) L′ (le-same L (lowerAt (settingOf T) A s) (sym (a .0)))
+              (le-trans (lowerAt (settingOf T) A s) (lowerAt (settingOf T) B s) L′ (t .lower s h) (le-same (lowerAt (settingOf T) B s) L′ (b .0))),
+          le-trans U′ (upperAt (settingOf T) B s) U (le-same U′ (upperAt (settingOf T) B s) (sym (b .1)))
+              (le-trans (upperAt (settingOf T) B s) (upperAt (settingOf T) A s) U (t .upper s h) (le-same (upperAt (settingOf T) A s) U (a .1))),
+        );
     components = λ k h. (t .lo k h, t .hi k h);
   }
 

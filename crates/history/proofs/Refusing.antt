@@ -120,12 +120,12 @@ module _ (T : Table) (B : Book) where
       let inner = cond (counts n) (refineAnswer T B k n width) (refused refusal.Count) in
       elim (cases-bool (ltb k (components T))) [
         | inl a ↦ (
-          let h1 : inner ≡ refused e = sym (cond-true (ltb k (components T)) inner (refused refusal.Component) a) ∙ h in
-          elim (cases-bool (counts n)) [
-            | inl b ↦ refine-accepted k n width e (sym (cond-true (counts n) (refineAnswer T B k n width) (refused refusal.Count) b) ∙ h1)
-            | inr b ↦ moved refusal.Count e (bad-steps (ltb-true k (components T) a) (miscounted n b))
-                (sym (cond-false (counts n) (refineAnswer T B k n width) (refused refusal.Count) b) ∙ h1)
-          ])
+            let h1 : inner ≡ refused e = sym (cond-true (ltb k (components T)) inner (refused refusal.Component) a) ∙ h in
+            elim (cases-bool (counts n)) [
+              | inl b ↦ refine-accepted k n width e (sym (cond-true (counts n) (refineAnswer T B k n width) (refused refusal.Count) b) ∙ h1)
+              | inr b ↦ moved refusal.Count e (bad-steps (ltb-true k (components T) a) (miscounted n b))
+                  (sym (cond-false (counts n) (refineAnswer T B k n width) (refused refusal.Count) b) ∙ h1)
+            ])
         | inr a ↦ moved refusal.Component e (no-component (ltb-false k (components T) a))
             (sym (cond-false (ltb k (components T)) inner (refused refusal.Component) a) ∙ h)
       ]
@@ -209,9 +209,9 @@ loaded-unchanged T B (refines k n width) e h =
     let inner = cond (counts n) (refineAnswer T B k n width) (refused refusal.Count) in
     elim (cases-bool both) [
       | inl a ↦ (
-        let p = and-parts (ltb k (components T)) (counts n) a in
-        let h1 : inner ≡ refused e = sym (cond-true (ltb k (components T)) inner (refused refusal.Component) (p .0)) ∙ h in
-        refine-accepted T B k n width e (sym (cond-true (counts n) (refineAnswer T B k n width) (refused refusal.Count) (p .1)) ∙ h1))
+          let p = and-parts (ltb k (components T)) (counts n) a in
+          let h1 : inner ≡ refused e = sym (cond-true (ltb k (components T)) inner (refused refusal.Component) (p .0)) ∙ h in
+          refine-accepted T B k n width e (sym (cond-true (counts n) (refineAnswer T B k n width) (refused refusal.Count) (p .1)) ∙ h1))
       | inr a ↦ cond-false both next-one (loaded T B) a
     ]
 loaded-unchanged T B (sweeping n) e h =

@@ -56,8 +56,7 @@ loop-b-again c =
     let v : c .share-sum .result ≡ f b = simp toZ-ofZ at (c .share-sum .ensures .value) in
     let fr : SFits w64 (c .share-sum .result) = omega (arith, ints) in
     let ft : SFits w64 (c .loop-b .sum +ℤ c .share-sum .result) = omega (arith, ints) in
-    let iv : c .loop-b .sum ≡ runSum row first values b = sym (c .loop-b .sum-is) ∙ c .loop-b .inv .0 in
-    (
+    let iv : c .loop-b .sum ≡ runSum row first values b = sym (c .loop-b .sum-is) ∙ c .loop-b .inv .0 in (
       simp (c .loop-b .sum-is, toZ-ofZ) (ap (λ (s : ℤ). s +ℤ c .share-sum .result) iv ∙ ap (λ (x : ℤ). runSum row first values b +ℤ x) v ∙ sym m),
       omega (arith, ints),
       omega (arith, ints),
