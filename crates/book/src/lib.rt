@@ -2,6 +2,7 @@
 mod best;
 mod book;
 mod frame;
+mod gain;
 mod mean;
 
 pub use book::Book;
