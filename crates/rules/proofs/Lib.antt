@@ -12,3 +12,8 @@ pub mod Candidates
 pub mod Updates
 pub mod UpdateX
 pub mod UpdateY
+pub mod Refines
+pub mod Sweeps
+pub mod Upper
+pub mod Layers
+pub mod Distances
