@@ -17,3 +17,7 @@ pub mod Sweeps
 pub mod Upper
 pub mod Layers
 pub mod Distances
+pub mod Plays
+pub mod PlanDepth
+pub mod Lower
+pub mod Promises
