@@ -10,6 +10,7 @@ pub mod SoundSteps
 pub mod Start
 pub mod Candidates
 pub mod Updates
+pub mod Calls
 pub mod UpdateX
 pub mod UpdateY
 pub mod Refines

@@ -16,6 +16,7 @@ use Rattle.rules.specs.Promises.{Tighter, EveryBook, EverySound}
 use Rattle.rules.proofs.Start.{start-fit, start-sound}
 use Rattle.rules.proofs.Steps.{step-fit}
 use Rattle.rules.proofs.Updates.{update-fit}
+use Rattle.rules.proofs.Calls.{refine-fit, sweep-fit, sweeps-fit}
 use Rattle.rules.proofs.Refines.{Keeps, keeps-self, refine-keeps}
 use Rattle.rules.proofs.Sweeps.{sweeps-keep}
 use Rattle.rules.proofs.Upper.{sound-upper}
@@ -74,4 +75,7 @@ every-fit M L = record {
   starts = start-fit M L;
   steps = λ k known B S. step-fit M L k known B S;
   updates = λ v B S. update-fit M L v B S;
+  refines = λ k n width known B S. refine-fit M L k known n width B S;
+  sweep = sweep-fit M L;
+  sweeps = sweeps-fit M L;
 }

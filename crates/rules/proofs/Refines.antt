@@ -1,19 +1,18 @@
 -- A refine keeps a book sound, and its bounds only tighten.
-use mathlib.Core.Path.{_≡_, refl}
-use mathlib.Core.Bool.{Bool, true, false}
-use Prim.Native.Nat.{ℕ, zero, suc, _<_}
+use Prim.Native.Nat.{ℕ, _<_}
 use lib.IntN.{ℤ}
 use lib.Signed.{_≤ℤ_}
 use Rattle.table.specs.Limits.{Lawful}
 use Rattle.horizon.proofs.Ring.{le-trans}
 use Rattle.components.specs.Nodes.{nodeOf, components}
 use Rattle.rules.specs.Setting.{Setting}
-use Rattle.rules.specs.Choosing.{at, atZ}
+use Rattle.rules.specs.Choosing.{atZ}
 use Rattle.rules.specs.Book.{Book}
-use Rattle.rules.specs.Refine.{Refined, narrow, held, step, refine}
+use Rattle.rules.specs.Refine.{step, refine}
 use Rattle.rules.specs.Sound.{Sound}
 use Rattle.rules.specs.Promises.{upperAt, lowerAt, Tighter}
 use Rattle.rules.proofs.Order.{le-self}
+use Rattle.rules.proofs.Calls.{refine-every}
 use Rattle.rules.proofs.SoundSteps.{step-sound, step-tighter}
 
 -- sound, and no bound wider than in A
@@ -48,24 +47,5 @@ module _ (M : Setting) (L : Lawful (M .table)) (k : ℕ) (known : k < components
   step-keeps B S = record { sound = step-sound M L k known B S; tighter = step-tighter M L k known B S }
 
   pub refine-keeps : (n width : ℕ) (B : Book) → Sound M B → Keeps M B (refine M k n width B .book)
-  unfolding refine
-  refine-keeps zero width B S = keeps-self M B S
-  refine-keeps (suc n) width B S =
-      let one = step-keeps B S in
-      let more = refine-keeps n width (step M k B) (one .sound) in
-      elim (narrow width k B) as (λ a. Keeps M B ((elim a as (λ _. Refined) [
-        | true ↦ record { book = B; made = 0 }
-        | false ↦ elim (held M (at (B .vector)) k) [
-          | true ↦ record { book = step M k B; made = 1 }
-          | false ↦ (let r = refine M k n width (step M k B) in record { book = r .book; made = suc (r .made) })
-        ]
-      ]) .book)) [
-        | true ↦ keeps-self M B S
-        | false ↦ elim (held M (at (B .vector)) k) as (λ a. Keeps M B ((elim a as (λ _. Refined) [
-          | true ↦ record { book = step M k B; made = 1 }
-          | false ↦ (let r = refine M k n width (step M k B) in record { book = r .book; made = suc (r .made) })
-        ]) .book)) [
-          | true ↦ one
-          | false ↦ keeps-on M B (step M k B) (refine M k n width (step M k B) .book) one more
-        ]
-      ]
+  refine-keeps n width B S =
+      refine-every M k (Keeps M B) (λ A w. keeps-on M B A (step M k A) w (step-keeps A (w .sound))) n width B (keeps-self M B S)

@@ -107,9 +107,11 @@ module _ (M : Setting) (L : Lawful (M .table)) (k : ℕ) (known : k < components
             (λ s h m. rw (recorded-here M k B f s h m) (attains-inside M L t k s (of-component (M .table) L k s m .0)))
             (λ s h m. rw (recorded-here M k B f s h m, lo-at s m ∙ lo-new M t k (atZ (B .lo) k) f) (over-least M L t k s h m)),
       ))
-      (λ (f : rises M k B ≡ false).
-      (v, lower-same M (atZ (B .lo)) (atZ (step M k B .lo)) (at (B .recorded)) (at (step M k B .recorded)) v (S .lower .1)
-      (λ s h e. lo-same f s e) (recorded-same M k B f)))
+      (λ (f : rises M k B ≡ false). (
+        v,
+        lower-same M (atZ (B .lo)) (atZ (step M k B .lo)) (at (B .recorded)) (at (step M k B .recorded)) v (S .lower .1)
+            (λ s h e. lo-same f s e) (recorded-same M k B f),
+      ))
       (cases-bool (rises M k B))
 
   worth-more : (v : ℕ) (e : Exit) → WorthOf M (atZ (B .lo)) (atZ (B .y)) v e → WorthOf M (atZ (step M k B .lo)) (atZ (B .y)) v e

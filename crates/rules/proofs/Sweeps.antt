@@ -1,18 +1,16 @@
 -- Sweeps keep a book sound, and its bounds only tighten.
-use mathlib.Core.Path.{_≡_, refl}
-use mathlib.Core.Bool.{Bool, true, false}
-use Prim.Native.Nat.{ℕ, zero, suc, _<_}
-use lib.IntN.{ℤ}
+use Prim.Native.Nat.{ℕ}
 use Rattle.table.specs.Limits.{Lawful}
-use Rattle.components.specs.Nodes.{nodes, nodeOf}
+use Rattle.components.specs.Nodes.{nodeOf}
 use Rattle.rules.specs.Setting.{Setting}
 use Rattle.rules.specs.Choosing.{atZ}
 use Rattle.rules.specs.Book.{Book}
-use Rattle.rules.specs.Sweep.{Swept, update, updates, sweep, still, sweeps}
+use Rattle.rules.specs.Sweep.{update, sweeps}
 use Rattle.rules.specs.Sound.{Sound}
 use Rattle.rules.proofs.Order.{le-self}
 use Rattle.rules.proofs.Nodes.{node-number}
 use Rattle.rules.proofs.Updates.{update-fit}
+use Rattle.rules.proofs.Calls.{sweeps-every}
 use Rattle.rules.proofs.UpdateX.{x-falls, x-over}
 use Rattle.rules.proofs.UpdateY.{y-rises, y-under, y-progress}
 use Rattle.rules.proofs.Refines.{Keeps, keeps-self, keeps-on}
@@ -37,27 +35,6 @@ module _ (M : Setting) (L : Lawful (M .table)) where
     };
   }
 
-  updates-keep : (n : ℕ) (B : Book) → Sound M B → Keeps M B (updates M n B)
-  unfolding updates
-  updates-keep zero B S = keeps-self M B S
-  updates-keep (suc n) B S =
-      let r = updates-keep n B S in
-      keeps-on M B (updates M n B) (update M n (updates M n B)) r (update-keeps n (updates M n B) (r .sound))
-
-  sweep-keeps : (B : Book) → Sound M B → Keeps M B (sweep M B)
-  unfolding sweep
-  sweep-keeps B S = updates-keep (nodes (M .table)) B S
-
   pub sweeps-keep : (n : ℕ) (B : Book) → Sound M B → Keeps M B (sweeps M n B .book)
-  unfolding sweeps
-  sweeps-keep zero B S = keeps-self M B S
-  sweeps-keep (suc n) B S =
-      let one = sweep-keeps B S in
-      let more = sweeps-keep n (sweep M B) (one .sound) in
-      elim (still M B (sweep M B)) as (λ a. Keeps M B ((elim a as (λ _. Swept) [
-        | true ↦ record { book = sweep M B; made = 1 }
-        | false ↦ (let r = sweeps M n (sweep M B) in record { book = r .book; made = suc (r .made) })
-      ]) .book)) [
-        | true ↦ one
-        | false ↦ keeps-on M B (sweep M B) (sweeps M n (sweep M B) .book) one more
-      ]
+  sweeps-keep n B S =
+      sweeps-every M (Keeps M B) (λ v A w. keeps-on M B A (update M v A) w (update-keeps v A (w .sound))) n B (keeps-self M B S)

@@ -10,3 +10,4 @@ pub mod Fit
 pub mod Sound
 pub mod Runs
 pub mod Promises
+pub mod Meaning
