@@ -11,3 +11,4 @@ pub mod Sound
 pub mod Runs
 pub mod Promises
 pub mod Meaning
+pub mod Worked

@@ -6,6 +6,8 @@ pub use exit::Exit;
 ghost use mathlib.Core.Path.{_≡_};
 ghost use Rattle.rules.specs.Setting.{scaleInUse, capInUse};
 ghost use Rattle.rules.specs.Fit.{EveryFit};
+ghost use lib.ListN.{length};
+ghost use Rattle.rules.specs.Worked.{workedModels, WorkedModels};
 ghost use Rattle.rules.specs.Promises.{EveryBook, EverySound};
 
 // For every lawful table, scale and cap, and every list of refines, sweeps and closes from the start:
@@ -45,4 +47,12 @@ pub fn cap() -> u64
     ensures value { λ r. ⌜ r ≡ capInUse ⌝ }
 {
     70_368_744_177_664
+}
+
+// How many worked models there are. Their results follow from the rules by computation.
+pub fn worked_models() -> usize
+    ensures count { λ r. ⌜ r ≡ length workedModels ⌝ }
+    ensures results { λ _. ⌜ WorkedModels ⌝ }
+{
+    7usize
 }
