@@ -14,6 +14,8 @@ use Rattle.components.specs.Nodes.{nodeOf}
 use Rattle.components.proofs.Below.{any-some, any-from, first-le, first-at}
 use Rattle.rules.specs.Layers.{layer, level}
 use Rattle.rules.specs.Play.{enters, inward, distance, toward}
+use Rattle.rules.specs.Meaning.{InsideWalk, arrived, onward}
+use Rattle.components.proofs.Reversible.{inside-in}
 use Rattle.rules.proofs.Nodes.{joined, stays-node}
 use Rattle.rules.proofs.Layers as layers
 
@@ -55,6 +57,20 @@ module _ (T : Table) (L : Lawful T) where
   pub distance-most : (t s : ℕ) → distance T t s ≤ suc (T .states)
   unfolding distance
   distance-most t s = layers.level-most (T .states) (goal t) (inward T) inward-mono s
+
+  pub distance-zero : (t s : ℕ) → s ≡ t → distance T t s ≡ 0
+  unfolding distance
+  distance-zero t s e = layers.level-goal (T .states) (goal t) (inward T) inward-mono s (eq-eqb s t e)
+
+  -- what k branches lead from is in layer k
+  walk-layer : {t k s : ℕ} → InsideWalk T t k s → layer (goal t) (inward T) k s ≡ true
+  unfolding layer
+  walk-layer {t = t} arrived = eq-eqb t t refl
+  walk-layer {t = t} (onward {k = k} {s = s} c b i l w) = inward-step t k s c b (inside-in T s c i .choice) i l (walk-layer w)
+
+  pub distance-least : (t k s : ℕ) → InsideWalk T t k s → distance T t s ≤ k
+  unfolding distance
+  distance-least t k s w = layers.level-least (T .states) (goal t) (inward T) inward-mono k s (walk-layer w)
 
   -- what `toward` plays
   pub record Nearer (t s c : ℕ) : Type 0 where

@@ -22,3 +22,5 @@ pub mod Plays
 pub mod PlanDepth
 pub mod Lower
 pub mod Promises
+pub mod Ends
+pub mod Meaning

@@ -16,8 +16,8 @@ use Rattle.components.specs.Nodes.{nodes, nodeOf, inComponent, components, stat
 use Rattle.rules.specs.Choosing.{largest, smallest, at, atZ}
 use Rattle.rules.specs.Setting.{Setting, leastReward, largestReward}
 use Rattle.rules.specs.Book.{Book}
-use Rattle.rules.specs.Refine.{worth, best, attains, halfway, shifted, held, step, narrow, refine}
-use Rattle.rules.specs.Sweep.{Candidate, bestOf, sweep, still, sweeps}
+use Rattle.rules.specs.Refine.{worth, best, attains, halfway, shifted, held, step, narrow, Refined, refine}
+use Rattle.rules.specs.Sweep.{Candidate, bestOf, sweep, Swept, sweeps}
 use Rattle.rules.specs.Candidates.{CandidateOf, FirstBest}
 use Rattle.rules.specs.Play.{distance, toward}
 
@@ -64,15 +64,14 @@ HeldAfter M k j B = held M (at (stepped M k j B .vector)) k ≡ true
 abbrev pub NarrowAfter : Setting → ℕ → ℕ → ℕ → Book → Type 0
 NarrowAfter M width k j B = narrow width k (stepped M k j B) ≡ true
 
--- a refine makes steps, at most n: none from a narrow book and none after a held one; it ends early for one of these alone
-pub record RefineLaw (M : Setting) (k n width : ℕ) (B : Book) : Type 0 where
-  pub book : refine M k n width B .book ≡ stepped M k (refine M k n width B .made) B
-  pub most : refine M k n width B .made ≤ n
-  pub wide : (j : ℕ) → j < refine M k n width B .made → NarrowAfter M width k j B → ⊥
-  pub free : (j : ℕ) → suc j < refine M k n width B .made → HeldAfter M k j B → ⊥
-  pub early : refine M k n width B .made < n
-      → NarrowAfter M width k (refine M k n width B .made) B
-      ⊎ ((j : ℕ) × (refine M k n width B .made ≡ suc j) × HeldAfter M k j B)
+-- r is what a refine of at most n steps leaves: it makes no step from a narrow book and none after a held one,
+-- and it ends early for one of these alone
+pub record RefineLaw (M : Setting) (k n width : ℕ) (B : Book) (r : Refined) : Type 0 where
+  pub book : r .book ≡ stepped M k (r .made) B
+  pub most : r .made ≤ n
+  pub wide : (j : ℕ) → j < r .made → NarrowAfter M width k j B → ⊥
+  pub free : (j : ℕ) → suc j < r .made → HeldAfter M k j B → ⊥
+  pub early : r .made < n → NarrowAfter M width k (r .made) B ⊎ ((j : ℕ) × (r .made ≡ suc j) × HeldAfter M k j B)
 
 -- one step: what the numbers of the next vector are, and when it is held
 pub record StepLaw (M : Setting) (t : ℕ → ℕ) (k : ℕ) : Type 0 where
@@ -94,13 +93,12 @@ sweptTimes M (suc j) B = sweptTimes M j (sweep M B)
 abbrev pub Unaltered : Setting → Book → Book → Type 0
 Unaltered M A B = (v : ℕ) → v < nodes (M .table) → (atZ (A .x) v ≡ atZ (B .x) v) × (atZ (A .y) v ≡ atZ (B .y) v)
 
--- a sweep call makes at most n sweeps; only the last of them may alter nothing, and an early end is after such a one
-pub record SweepLaw (M : Setting) (n : ℕ) (B : Book) : Type 0 where
-  pub book : sweeps M n B .book ≡ sweptTimes M (sweeps M n B .made) B
-  pub most : sweeps M n B .made ≤ n
-  pub alters : (j : ℕ) → suc j < sweeps M n B .made → Unaltered M (sweptTimes M j B) (sweptTimes M (suc j) B) → ⊥
-  pub early : sweeps M n B .made < n
-      → (j : ℕ) × (sweeps M n B .made ≡ suc j) × Unaltered M (sweptTimes M j B) (sweptTimes M (suc j) B)
+-- r is what at most n sweeps leave: only the last of them may alter nothing, and an early end is after such a one
+pub record SweepLaw (M : Setting) (n : ℕ) (B : Book) (r : Swept) : Type 0 where
+  pub book : r .book ≡ sweptTimes M (r .made) B
+  pub most : r .made ≤ n
+  pub alters : (j : ℕ) → suc j < r .made → Unaltered M (sweptTimes M j B) (sweptTimes M (suc j) B) → ⊥
+  pub early : r .made < n → (j : ℕ) × (r .made ≡ suc j) × Unaltered M (sweptTimes M j B) (sweptTimes M (suc j) B)
 
 -- k branches of inside choices lead from s to t
 pub data InsideWalk (T : Table) (t : ℕ) : ℕ → ℕ → Type 0 where
@@ -119,8 +117,8 @@ pub record DistanceLaw (T : Table) (t s : ℕ) : Type 0 where
 pub record Meaning (M : Setting) : Type 0 where
   pub rewards : RewardLaw (M .table)
   pub steps : (t : ℕ → ℕ) (k : ℕ) → StepLaw M t k
-  pub refining : (k n width : ℕ) (B : Book) → RefineLaw M k n width B
-  pub sweeping : (n : ℕ) (B : Book) → SweepLaw M n B
+  pub refining : (k n width : ℕ) (B : Book) → RefineLaw M k n width B (refine M k n width B)
+  pub sweeping : (n : ℕ) (B : Book) → SweepLaw M n B (sweeps M n B)
   -- each node has a best candidate, the first of the largest
   pub candidates : (rounds : Rounding) (bounds values : List ℤ) (v : ℕ) → v < nodes (M .table)
       → (b : Candidate) × (bestOf M rounds bounds values v ≡ Some b) × FirstBest (CandidateOf M rounds bounds values v) b
