@@ -10,5 +10,17 @@ pub mod SoundSteps
 pub mod Start
 pub mod Candidates
 pub mod Updates
+pub mod Calls
 pub mod UpdateX
 pub mod UpdateY
+pub mod Refines
+pub mod Sweeps
+pub mod Upper
+pub mod Layers
+pub mod Distances
+pub mod Plays
+pub mod PlanDepth
+pub mod Lower
+pub mod Promises
+pub mod Ends
+pub mod Meaning
