@@ -10,7 +10,8 @@ use Rattle.table.specs.Table.{Table}
 use Rattle.components.specs.Inside.{inside}
 use Rattle.rules.specs.Sweep.{better}
 use Rattle.rules.specs.declared.exit.Candidate.{Candidate}
-use Rattle.rules.specs.declared.exit.Exit.the-variants.{Leave}
+use Rattle.rules.specs.declared.exit.Exit.{Exit}
+use Rattle.rules.specs.declared.exit.Exit.the-variants.{Stay, Leave}
 
 -- the best of the inside choices among the first n choices of s, by f
 abbrev pub overInside : Table → (ℕ → ℤ) → ℕ → ℕ → Option Candidate
@@ -22,3 +23,8 @@ overInside T f s (suc n) =
 -- the vector that a list of integers stands for
 abbrev pub vectorOf : List ℤ → ℕ → ℕ
 vectorOf values s = natAbs (getD values s (pos 0))
+
+-- the choice of an exit that leaves
+abbrev pub choiceOr : Exit → ℕ → ℕ
+choiceOr Stay c = c
+choiceOr (Leave t c) d = c

@@ -5,7 +5,6 @@ ghost use lib.ListN.{length, getD};
 ghost use lib.Signed.{_≤ℤ_};
 ghost use Rattle.table.specs.Sums.{sumN};
 ghost use Rattle.book.specs.Rows.{placeAt, weightAt, runSum};
-
 use horizon::Side;
 
 // A weight times a value.

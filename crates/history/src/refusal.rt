@@ -1,10 +1,10 @@
 ghost use mathlib.Core.Path.{_≡_};
 ghost use Rattle.table.specs.Faults.{noted as notedAt};
 ghost use Rattle.history.specs.Refusals.{refusalNotice};
-use table::Notice;
 use table::Fault;
 use table::FaultDebug;
 use table::FaultPartialEq;
+use table::Notice;
 
 // Why a call is refused.
 #[derive(Clone, Copy, PartialEq, Eq, Debug)]

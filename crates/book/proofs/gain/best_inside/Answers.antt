@@ -45,19 +45,17 @@ loop-c-again c =
     let n : ℕ = c .loop-c .c in
     elim (c .if-frame-row .came) [
       | then-frame-row w ↦ (
-        let i : inside (tableOf f) s n ≡ true = here c ∙ w .if-frame-row .taken in
-        let fu : SFits w64 (w .worths-above .result .0) = search needs in
-        let fl : SFits w64 (w .worths-above .result .1) = search needs in
-        let u : w .improved-upper .result ≡ better (c .loop-c .upper) (byChoice s n (w .worths-above .result .0)) = simp toZ-ofZ at (w .improved-upper .ensures) in
-        let l : w .improved-lower .result ≡ better (c .loop-c .lower) (byChoice s n (w .worths-above .result .1)) = simp toZ-ofZ at (w .improved-lower .ensures) in
-        (
-          w .upper-is ∙ u ∙ more-inside (tableOf f) (by c roundUp) s n (c .loop-c .upper) (c .loop-c .inv .0) (w .worths-above .result .0) i (w .worths-above .ensures .upper),
-          w .lower-is ∙ l ∙ more-inside (tableOf f) (by c roundDown) s n (c .loop-c .lower) (c .loop-c .inv .1) (w .worths-above .result .1) i (w .worths-above .ensures .lower),
-        ))
+          let i : inside (tableOf f) s n ≡ true = here c ∙ w .if-frame-row .taken in
+          let fu : SFits w64 (w .worths-above .result .0) = search needs in
+          let fl : SFits w64 (w .worths-above .result .1) = search needs in
+          let u : w .improved-upper .result ≡ better (c .loop-c .upper) (byChoice s n (w .worths-above .result .0)) = simp toZ-ofZ at (w .improved-upper .ensures) in
+          let l : w .improved-lower .result ≡ better (c .loop-c .lower) (byChoice s n (w .worths-above .result .1)) = simp toZ-ofZ at (w .improved-lower .ensures) in (
+            w .upper-is ∙ u ∙ more-inside (tableOf f) (by c roundUp) s n (c .loop-c .upper) (c .loop-c .inv .0) (w .worths-above .result .0) i (w .worths-above .ensures .upper),
+            w .lower-is ∙ l ∙ more-inside (tableOf f) (by c roundDown) s n (c .loop-c .lower) (c .loop-c .inv .1) (w .worths-above .result .1) i (w .worths-above .ensures .lower),
+          ))
       | else-frame-row w ↦ (
-        let i : inside (tableOf f) s n ≡ false = here c ∙ w .if-frame-row .left in
-        (
-          w .upper-is ∙ more-leaving (tableOf f) (by c roundUp) s n (c .loop-c .upper) (c .loop-c .inv .0) i,
-          w .lower-is ∙ more-leaving (tableOf f) (by c roundDown) s n (c .loop-c .lower) (c .loop-c .inv .1) i,
-        ))
+          let i : inside (tableOf f) s n ≡ false = here c ∙ w .if-frame-row .left in (
+            w .upper-is ∙ more-leaving (tableOf f) (by c roundUp) s n (c .loop-c .upper) (c .loop-c .inv .0) i,
+            w .lower-is ∙ more-leaving (tableOf f) (by c roundDown) s n (c .loop-c .lower) (c .loop-c .inv .1) i,
+          ))
     ]
