@@ -1,11 +1,11 @@
 -- What the definitions say: extremes, rewards, steps and distances, put together.
-use mathlib.Core.Path.{_≡_, refl, sym, ap, _∙_, subst}
+use mathlib.Core.Path.{_≡_, refl, _∙_}
 use mathlib.Core.Bool.{Bool, true, false, not, _&&_, _||_}
-use mathlib.Core.Logic.{_⊎_, inl, inr, ⊎-elim}
+use mathlib.Core.Logic.{⊎-elim}
 use Prim.Native.Nat.{ℕ, zero, suc, _<_, _≤_}
 use native.Mathlib.Omega.{arith}
 use lib.Dec.{eqb, leb}
-use lib.IntN.{ℤ, pos, natAbs, _-ℤ_}
+use lib.IntN.{pos, _-ℤ_}
 use lib.Signed.{_≤ℤ_, _<ℤ_}
 use borrow.Author.Differences.{abs-is}
 use Rattle.std.proofs.shelf.Tests.{cases-eq, cases-bool, both-ways, and-from, or-left, or-right, not-from-true, not-from-false, le-leb, eq-eqb, cond-true, cond-false}
@@ -13,11 +13,10 @@ use Rattle.table.specs.Table.{Table, successor}
 use Rattle.table.specs.Limits.{Lawful}
 use Rattle.horizon.specs.Means.{roundDown, roundUp}
 use Rattle.horizon.proofs.Ring.{lin}
-use Rattle.components.specs.Below.{every, first, any}
+use Rattle.components.specs.Below.{every, first}
 use Rattle.components.specs.Inside.{inside}
-use Rattle.components.specs.Nodes.{nodes, nodeOf, inComponent, statesOf}
+use Rattle.components.specs.Nodes.{nodes, nodeOf, statesOf}
 use Rattle.components.proofs.Below.{every-from, first-none, any-from}
-use Rattle.components.proofs.Reversible.{inside-in}
 use Rattle.rules.specs.Setting.{Setting}
 use Rattle.rules.specs.Choosing.{atZ, eqZ, largest, smallest}
 use Rattle.rules.specs.Book.{Book, exitAt}
@@ -26,7 +25,7 @@ use Rattle.rules.specs.Sweep.{Candidate, bestY, exitOr, update}
 use Rattle.rules.specs.Refine.{worth, attains, halfway, shifted, held}
 use Rattle.rules.specs.Refine as Refine
 use Rattle.rules.specs.Play.{enters, distance, toward}
-use Rattle.rules.specs.Meaning.{FirstWith, Largest, Smallest, Extremes, RewardLaw, StepLaw, UpdateLaw, InsideWalk, arrived, onward, DistanceLaw, Meaning, EveryMeaning}
+use Rattle.rules.specs.Meaning.{Extremes, RewardLaw, StepLaw, UpdateLaw, InsideWalk, arrived, onward, DistanceLaw, EveryMeaning}
 use Rattle.rules.proofs.Order.{eqZ-from, lt-ltZ, le-ltZ}
 use Rattle.rules.proofs.Choosing.{largest-bound, largest-reached, smallest-bound, smallest-reached}
 use Rattle.rules.proofs.Nodes.{stays-node}
@@ -34,7 +33,7 @@ use Rattle.rules.proofs.Sides.{lower-side, upper-side, rewards-between, least-
 use Rattle.rules.proofs.StepFacts.{attains-names, attains-inside, attains-best, shifted-capped}
 use Rattle.rules.proofs.Candidates.{best-first}
 use Rattle.rules.proofs.Updates.{best, best-is, value-is, exit-is, newY, newExit, rises, x-here, x-other, y-here, y-other, plan-here, plan-other}
-use Rattle.rules.proofs.Distances.{Nearer, toward-nearer, distance-zero, distance-least}
+use Rattle.rules.proofs.Distances.{toward-nearer, distance-zero, distance-least}
 use Rattle.rules.proofs.Ends.{refine-law, sweep-law}
 
 extremes : Extremes

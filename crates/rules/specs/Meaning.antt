@@ -12,7 +12,7 @@ use Rattle.table.specs.Limits.{Lawful}
 use Rattle.horizon.specs.Means.{Rounding, roundDown, roundUp}
 use Rattle.horizon.specs.Potential.{RewardsBetween}
 use Rattle.components.specs.Inside.{inside}
-use Rattle.components.specs.Nodes.{nodes, nodeOf, inComponent, components, statesOf}
+use Rattle.components.specs.Nodes.{nodes, nodeOf, inComponent, statesOf}
 use Rattle.rules.specs.Choosing.{largest, smallest, at, atZ}
 use Rattle.rules.specs.Setting.{Setting, leastReward, largestReward}
 use Rattle.rules.specs.Book.{Book, exitAt}
