@@ -1,5 +1,5 @@
 -- A refine and sweeps keep that a book fits.
-use mathlib.Core.Bool.{Bool, true, false}
+use mathlib.Core.Bool.{true, false}
 use Prim.Native.Nat.{ℕ, zero, suc, _<_}
 use Rattle.table.specs.Limits.{Lawful}
 use Rattle.components.specs.Nodes.{nodes, components}

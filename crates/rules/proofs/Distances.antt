@@ -1,18 +1,18 @@
 -- Within a node each state but t has an inside choice with a branch one step nearer to t.
-use mathlib.Core.Path.{_≡_, refl, sym, ap, _∙_}
-use mathlib.Core.Bool.{Bool, true, false, _&&_}
-use Prim.Native.Nat.{ℕ, zero, suc, _<_, _≤_}
+use mathlib.Core.Path.{_≡_, refl, _∙_}
+use mathlib.Core.Bool.{Bool, true, _&&_}
+use Prim.Native.Nat.{ℕ, suc, _<_, _≤_}
 use native.Mathlib.Omega.{arith}
 use lib.Dec.{eqb, ltb}
 use Rattle.std.proofs.shelf.Tests.{eq-eqb, eqb-true, ne-eqb, and-parts, and-from, ltb-true}
 use Rattle.table.specs.Table.{Table, successor}
 use Rattle.table.specs.Limits.{Lawful}
-use Rattle.components.specs.Below.{any, first}
+use Rattle.components.specs.Below.{first}
 use Rattle.components.specs.EndComponent.{Reaches, stays, steps}
 use Rattle.components.specs.Inside.{inside}
 use Rattle.components.specs.Nodes.{nodeOf}
 use Rattle.components.proofs.Below.{any-some, any-from, first-le, first-at}
-use Rattle.rules.specs.Layers.{layer, level}
+use Rattle.rules.specs.Layers.{layer}
 use Rattle.rules.specs.Play.{enters, inward, distance, toward}
 use Rattle.rules.specs.Meaning.{InsideWalk, arrived, onward}
 use Rattle.components.proofs.Reversible.{inside-in}

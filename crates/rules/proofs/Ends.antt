@@ -1,11 +1,10 @@
 -- When refines and sweeps end.
-use mathlib.Core.Path.{_≡_, refl, sym, ap, _∙_, subst}
+use mathlib.Core.Path.{_≡_, refl, ap}
 use mathlib.Core.Bool.{Bool, true, false, _&&_}
-use mathlib.Core.Logic.{_⊎_, inl, inr, ⊎-elim}
-use Prim.Native.Nat.{ℕ, zero, suc, _<_, _≤_}
+use mathlib.Core.Logic.{inl, inr}
+use Prim.Native.Nat.{ℕ, zero, suc, _<_}
 use native.Mathlib.Omega.{arith}
-use lib.IntN.{ℤ}
-use Rattle.std.proofs.shelf.Tests.{cases-bool, both-ways, and-parts, and-from}
+use Rattle.std.proofs.shelf.Tests.{both-ways, and-parts, and-from}
 use Rattle.components.specs.Nodes.{nodes}
 use Rattle.components.proofs.Below.{every-at, every-from}
 use Rattle.rules.specs.Setting.{Setting}

@@ -24,3 +24,5 @@ pub mod Lower
 pub mod Promises
 pub mod Ends
 pub mod Meaning
+pub mod Loops
+pub mod Ranges

@@ -1,8 +1,8 @@
 -- The plan of a sound book earns its lower bounds.
 use mathlib.Core.Path.{_≡_, refl, sym, ap, _∙_}
-use mathlib.Core.Bool.{Bool, true, false}
+use mathlib.Core.Bool.{true}
 use mathlib.Core.Logic.{_⊎_, inl, inr}
-use Prim.Native.Nat.{ℕ, _<_, _≤_}
+use Prim.Native.Nat.{ℕ, _<_}
 use native.Mathlib.Omega.{arith}
 use lib.IntN.{ℤ, pos, _+ℤ_, _*ℤ_}
 use lib.Signed.{_≤ℤ_}
@@ -21,12 +21,10 @@ use Rattle.rules.specs.Book.{Book, exitAt}
 use Rattle.rules.specs.Play.{play}
 use Rattle.rules.specs.Sound.{Sound}
 use Rattle.rules.specs.Promises.{LowerHolds}
-use Rattle.rules.specs.declared.exit.Exit.{Exit}
 use Rattle.rules.specs.declared.exit.Exit.the-variants.{Stay, Leave}
 use Rattle.rules.proofs.Nodes.{stays-node, node-number}
 use Rattle.rules.proofs.Sides.{rewards-between}
-use Rattle.rules.proofs.Distances.{Nearer}
-use Rattle.rules.proofs.Plays.{exit, Exits, Way, staying, leaving, nearing, way, worth-at, plays}
+use Rattle.rules.proofs.Plays.{exit, staying, leaving, nearing, way, worth-at, plays}
 use Rattle.rules.proofs.PlanDepth.{isStay, stay-is, leave-is, planDepth, plan-shallow, plan-stays, plan-falls}
 
 module _ (M : Setting) (L : Lawful (M .table)) (B : Book) (S : Sound M B) where

@@ -1,35 +1,39 @@
 -- What the definitions say: extremes, rewards, steps and distances, put together.
-use mathlib.Core.Path.{_≡_, refl, sym, ap, _∙_, subst}
+use mathlib.Core.Path.{_≡_, refl, _∙_}
 use mathlib.Core.Bool.{Bool, true, false, not, _&&_, _||_}
-use mathlib.Core.Logic.{_⊎_, inl, inr, ⊎-elim}
+use mathlib.Core.Logic.{⊎-elim}
 use Prim.Native.Nat.{ℕ, zero, suc, _<_, _≤_}
 use native.Mathlib.Omega.{arith}
 use lib.Dec.{eqb, leb}
-use lib.IntN.{ℤ, pos, natAbs, _-ℤ_}
-use lib.Signed.{_≤ℤ_}
+use lib.IntN.{pos, _-ℤ_}
+use lib.Signed.{_≤ℤ_, _<ℤ_}
 use borrow.Author.Differences.{abs-is}
-use Rattle.std.proofs.shelf.Tests.{cases-eq, cases-bool, both-ways, and-from, or-left, or-right, not-from-true, not-from-false, le-leb, eq-eqb}
+use Rattle.std.proofs.shelf.Tests.{cases-eq, cases-bool, both-ways, and-from, or-left, or-right, not-from-true, not-from-false, le-leb, eq-eqb, cond-true, cond-false}
 use Rattle.table.specs.Table.{Table, successor}
 use Rattle.table.specs.Limits.{Lawful}
-use Rattle.horizon.specs.Means.{roundDown}
+use Rattle.horizon.specs.Means.{roundDown, roundUp}
 use Rattle.horizon.proofs.Ring.{lin}
-use Rattle.components.specs.Below.{every, first, any}
+use Rattle.components.specs.Below.{every, first}
 use Rattle.components.specs.Inside.{inside}
-use Rattle.components.specs.Nodes.{nodeOf, inComponent, statesOf}
+use Rattle.components.specs.Nodes.{nodes, nodeOf, statesOf}
 use Rattle.components.proofs.Below.{every-from, first-none, any-from}
-use Rattle.components.proofs.Reversible.{inside-in}
 use Rattle.rules.specs.Setting.{Setting}
-use Rattle.rules.specs.Choosing.{eqZ, largest, smallest}
-use Rattle.rules.specs.Refine.{worth, best, attains, halfway, shifted, held}
+use Rattle.rules.specs.Choosing.{atZ, eqZ, largest, smallest}
+use Rattle.rules.specs.Book.{Book, exitAt}
+use Rattle.rules.specs.Fit.{Lengths}
+use Rattle.rules.specs.Sweep.{Candidate, bestY, exitOr, update}
+use Rattle.rules.specs.Refine.{worth, attains, halfway, shifted, held}
+use Rattle.rules.specs.Refine as Refine
 use Rattle.rules.specs.Play.{enters, distance, toward}
-use Rattle.rules.specs.Meaning.{FirstWith, Largest, Smallest, Extremes, RewardLaw, StepLaw, InsideWalk, arrived, onward, DistanceLaw, Meaning, EveryMeaning}
-use Rattle.rules.proofs.Order.{eqZ-from}
+use Rattle.rules.specs.Meaning.{Extremes, RewardLaw, StepLaw, UpdateLaw, InsideWalk, arrived, onward, DistanceLaw, EveryMeaning}
+use Rattle.rules.proofs.Order.{eqZ-from, lt-ltZ, le-ltZ}
 use Rattle.rules.proofs.Choosing.{largest-bound, largest-reached, smallest-bound, smallest-reached}
 use Rattle.rules.proofs.Nodes.{stays-node}
-use Rattle.rules.proofs.Sides.{rewards-between, least-attained, largest-attained}
+use Rattle.rules.proofs.Sides.{lower-side, upper-side, rewards-between, least-attained, largest-attained}
 use Rattle.rules.proofs.StepFacts.{attains-names, attains-inside, attains-best, shifted-capped}
 use Rattle.rules.proofs.Candidates.{best-first}
-use Rattle.rules.proofs.Distances.{Nearer, toward-nearer, distance-zero, distance-least}
+use Rattle.rules.proofs.Updates.{best, best-is, value-is, exit-is, newY, newExit, rises, x-here, x-other, y-here, y-other, plan-here, plan-other}
+use Rattle.rules.proofs.Distances.{toward-nearer, distance-zero, distance-least}
 use Rattle.rules.proofs.Ends.{refine-law, sweep-law}
 
 extremes : Extremes
@@ -57,13 +61,13 @@ module _ (M : Setting) (L : Lawful (M .table)) (t : ℕ → ℕ) (k : ℕ) where
       or-left (not (statesOf (M .table) k s)) (leb (shifted M t k s) (M .cap)) (not-from-false (statesOf (M .table) k s) m))
       (cases-bool (statesOf (M .table) k s))))
 
-  first-attaining : (s j : ℕ) → j < attains M t s → (inside (M .table) s j ≡ true) × (worth M roundDown t s j ≡ best M roundDown t s) → ⊥
+  first-attaining : (s j : ℕ) → j < attains M t s → (inside (M .table) s j ≡ true) × (worth M roundDown t s j ≡ Refine.best M roundDown t s) → ⊥
   unfolding attains
   first-attaining s j l w =
-      let p : ℕ → Bool = λ c. inside (M .table) s c && eqZ (worth M roundDown t s c) (best M roundDown t s) in
+      let p : ℕ → Bool = λ c. inside (M .table) s c && eqZ (worth M roundDown t s c) (Refine.best M roundDown t s) in
       both-ways (p j) (first-none (M .table .choices s) p j l)
-      (and-from (inside (M .table) s j) (eqZ (worth M roundDown t s j) (best M roundDown t s)) (w .0)
-      (eqZ-from (worth M roundDown t s j) (best M roundDown t s) (w .1)))
+      (and-from (inside (M .table) s j) (eqZ (worth M roundDown t s j) (Refine.best M roundDown t s)) (w .0)
+      (eqZ-from (worth M roundDown t s j) (Refine.best M roundDown t s) (w .1)))
 
   next-is : (s : ℕ) → s < M .table .states → statesOf (M .table) k s ≡ true
       → pos (shifted M t k s) ≡ halfway M t s -ℤ smallest (M .table .states) (statesOf (M .table) k) (halfway M t)
@@ -81,6 +85,38 @@ module _ (M : Setting) (L : Lawful (M .table)) (t : ℕ → ℕ) (k : ℕ) where
     };
     next = next-is;
     holds = ((λ f s h m. shifted-capped M L t k s h m f), not-held);
+  }
+
+module _ (M : Setting) (L : Lawful (M .table)) (v : ℕ) (B : Book) (l : v < nodes (M .table)) (S : Lengths M B) where
+  abbrev chosen : Candidate
+  chosen = best M L roundDown lower-side (B .lo) (B .y) v l
+
+  new-y : atZ (update M v B .y) v ≡ chosen .value
+  new-y = y-here M v B (let q = S .y in omega arith) ∙ value-is M L roundDown lower-side (B .lo) (B .y) v l (atZ (B .y) v)
+
+  new-plan : exitAt (update M v B .plan) v ≡ newExit M v B
+  new-plan = plan-here M v B (let q = S .plan in omega arith)
+
+  rose : atZ (B .y) v <ℤ chosen .value → exitAt (update M v B .plan) v ≡ chosen .exit
+  rose u =
+      let e = value-is M L roundDown lower-side (B .lo) (B .y) v l (atZ (B .y) v) in
+      new-plan ∙ cond-true (rises M v B) (exitOr (bestY M v B) (exitAt (B .plan) v)) (exitAt (B .plan) v) (lt-ltZ (atZ (B .y) v) (newY M v B) (omega (arith, lin)))
+      ∙ exit-is M L roundDown lower-side (B .lo) (B .y) v l (exitAt (B .plan) v)
+
+  stayed : chosen .value ≤ℤ atZ (B .y) v → exitAt (update M v B .plan) v ≡ exitAt (B .plan) v
+  stayed u =
+      let e = value-is M L roundDown lower-side (B .lo) (B .y) v l (atZ (B .y) v) in
+      new-plan ∙ cond-false (rises M v B) (exitOr (bestY M v B) (exitAt (B .plan) v)) (exitAt (B .plan) v) (le-ltZ (atZ (B .y) v) (newY M v B) (omega (arith, lin)))
+
+  update-law : UpdateLaw M v B
+  update-law = record {
+    upper = (
+      best M L roundUp upper-side (B .hi) (B .x) v l,
+      best-is M L roundUp upper-side (B .hi) (B .x) v l,
+      x-here M v B (let q = S .x in omega arith) ∙ value-is M L roundUp upper-side (B .hi) (B .x) v l (atZ (B .x) v),
+    );
+    lower = (chosen, best-is M L roundDown lower-side (B .lo) (B .y) v l, new-y, rose, stayed);
+    others = λ w n. (x-other M v B w n, y-other M v B w n, plan-other M v B w n);
   }
 
 module _ (T : Table) (L : Lawful T) (t : ℕ) (ht : t < T .states) where
@@ -134,6 +170,7 @@ every-meaning = record {
     refining = λ k n width B. refine-law M k width n B;
     sweeping = sweep-law M;
     candidates = λ rounds bounds values v l. best-first M L rounds bounds values v l;
+    updates = update-law M L;
     distances = λ t s ht hs e. distance-law (M .table) L t ht s hs e;
   };
 }

@@ -1,19 +1,17 @@
 -- Under the plan each state is at most as many steps as there are states from a node that stays.
-use mathlib.Core.Path.{_≡_, refl, sym, ap, _∙_}
+use mathlib.Core.Path.{_≡_, ap}
 use mathlib.Core.Bool.{Bool, true, false}
 use mathlib.Core.Logic.{_⊎_, inl, inr}
 use Prim.Native.Nat.{ℕ, zero, suc, _+_, _*_, _<_, _≤_}
 use native.Mathlib.Omega.{arith}
 use native.Mathlib.Nat.{mul-le-mul-right, suc-mul}
 use lib.Dec.{ltb}
-use lib.IntN.{ℤ, pos, natAbs, _-ℤ_}
-use lib.Signed.{_≤ℤ_, _<ℤ_}
+use lib.IntN.{ℤ, natAbs, _-ℤ_}
 use borrow.Author.Differences.{abs-is}
 use Rattle.std.proofs.shelf.Tests.{ltb-true}
 use Rattle.table.specs.Table.{successor}
 use Rattle.table.specs.Limits.{Lawful}
 use Rattle.horizon.proofs.Ring.{lin}
-use Rattle.components.specs.Below.{any}
 use Rattle.components.specs.Nodes.{nodeOf}
 use Rattle.components.proofs.Below.{any-some, any-from}
 use Rattle.rules.specs.Setting.{Setting, top}
@@ -26,8 +24,8 @@ use Rattle.rules.specs.declared.exit.Exit.{Exit}
 use Rattle.rules.specs.declared.exit.Exit.the-variants.{Stay, Leave}
 use Rattle.rules.proofs.Nodes.{stays-node, node-number}
 use Rattle.rules.proofs.Layers as layers
-use Rattle.rules.proofs.Distances.{Nearer, enters-mono, distance-most}
-use Rattle.rules.proofs.Plays.{exit, Exits, Way, staying, leaving, nearing, way, plays}
+use Rattle.rules.proofs.Distances.{enters-mono, distance-most}
+use Rattle.rules.proofs.Plays.{exit, staying, leaving, nearing, way, plays}
 
 -- a smaller first part, or the same and a smaller second
 lex : (R a r b q : ℕ) → a < b → r < R → a * R + r < b * R + q

@@ -1,7 +1,6 @@
 -- Every book that changes lead to from the start is sound, so its bounds hold; and no change but closing widens one.
-use mathlib.Core.Bool.{Bool, true, false, cond}
 use mathlib.Core.List.{List, [], _∷_}
-use Prim.Native.Nat.{ℕ, _<_}
+use Prim.Native.Nat.{ℕ}
 use lib.Dec.{ltb}
 use Rattle.std.proofs.shelf.Tests.{cond-both, ltb-true}
 use Rattle.table.specs.Limits.{Lawful}
@@ -12,7 +11,7 @@ use Rattle.rules.specs.Refine.{refine}
 use Rattle.rules.specs.Runs.{Change, refines, sweeping, closing, changed, after}
 use Rattle.rules.specs.Fit.{EveryFit}
 use Rattle.rules.specs.Sound.{Sound}
-use Rattle.rules.specs.Promises.{Tighter, EveryBook, EverySound}
+use Rattle.rules.specs.Promises.{EveryBook, EverySound}
 use Rattle.rules.proofs.Start.{start-fit, start-sound}
 use Rattle.rules.proofs.Steps.{step-fit}
 use Rattle.rules.proofs.Updates.{update-fit}

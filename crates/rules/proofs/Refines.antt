@@ -1,10 +1,8 @@
 -- A refine keeps a book sound, and its bounds only tighten.
 use Prim.Native.Nat.{ℕ, _<_}
-use lib.IntN.{ℤ}
-use lib.Signed.{_≤ℤ_}
 use Rattle.table.specs.Limits.{Lawful}
 use Rattle.horizon.proofs.Ring.{le-trans}
-use Rattle.components.specs.Nodes.{nodeOf, components}
+use Rattle.components.specs.Nodes.{components}
 use Rattle.rules.specs.Setting.{Setting}
 use Rattle.rules.specs.Choosing.{atZ}
 use Rattle.rules.specs.Book.{Book}

@@ -1,14 +1,13 @@
 -- No strategy beats the upper bounds of a sound book.
 use mathlib.Core.Path.{_≡_}
-use mathlib.Core.Bool.{Bool, true, false}
-use mathlib.Core.Logic.{_⊎_, inl, inr, ⊎-elim}
-use Prim.Native.Nat.{ℕ, _<_, _≤_}
+use mathlib.Core.Bool.{true, false}
+use mathlib.Core.Logic.{inl, inr, ⊎-elim}
+use Prim.Native.Nat.{ℕ, _<_}
 use native.Mathlib.Omega.{arith}
-use lib.IntN.{ℤ, pos, _+ℤ_, _*ℤ_}
-use lib.Signed.{_≤ℤ_}
+use lib.IntN.{pos, _+ℤ_}
 use Rattle.std.proofs.shelf.Tests.{cases-bool}
 use Rattle.table.specs.Limits.{Lawful}
-use Rattle.horizon.specs.Upper.{InsideChoice, LeavingChoice, UpperHypotheses}
+use Rattle.horizon.specs.Upper.{InsideChoice, UpperHypotheses}
 use Rattle.horizon.proofs.Ring.{lin, mono}
 use Rattle.horizon.proofs.UpperBounds.{upper-theorem}
 use Rattle.components.specs.Inside.{inside}

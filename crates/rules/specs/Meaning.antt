@@ -5,21 +5,22 @@ use mathlib.Core.Logic.{_⊎_, _↔_}
 use mathlib.Core.List.{List}
 use Prim.Native.Nat.{ℕ, zero, suc, _<_, _≤_}
 use lib.IntN.{ℤ, pos, _-ℤ_}
-use lib.Signed.{_≤ℤ_}
+use lib.Signed.{_≤ℤ_, _<ℤ_}
 use Rattle.std.specs.declared.option.Option.the-variants.{Some}
 use Rattle.table.specs.Table.{Table, successor}
 use Rattle.table.specs.Limits.{Lawful}
-use Rattle.horizon.specs.Means.{Rounding, roundDown}
+use Rattle.horizon.specs.Means.{Rounding, roundDown, roundUp}
 use Rattle.horizon.specs.Potential.{RewardsBetween}
 use Rattle.components.specs.Inside.{inside}
-use Rattle.components.specs.Nodes.{nodes, nodeOf, inComponent, components, statesOf}
+use Rattle.components.specs.Nodes.{nodes, nodeOf, inComponent, statesOf}
 use Rattle.rules.specs.Choosing.{largest, smallest, at, atZ}
 use Rattle.rules.specs.Setting.{Setting, leastReward, largestReward}
-use Rattle.rules.specs.Book.{Book}
+use Rattle.rules.specs.Book.{Book, exitAt}
 use Rattle.rules.specs.Refine.{worth, best, attains, halfway, shifted, held, step, narrow, Refined, refine}
-use Rattle.rules.specs.Sweep.{Candidate, bestOf, sweep, Swept, sweeps}
+use Rattle.rules.specs.Sweep.{Candidate, bestOf, update, sweep, Swept, sweeps}
 use Rattle.rules.specs.Candidates.{CandidateOf, FirstBest}
 use Rattle.rules.specs.Play.{distance, toward}
+use Rattle.rules.specs.Fit.{Lengths}
 
 -- i is the first number below n with P
 pub record FirstWith (n : ℕ) (P : ℕ → Type 0) (i : ℕ) : Type 0 where
@@ -84,6 +85,17 @@ pub record StepLaw (M : Setting) (t : ℕ → ℕ) (k : ℕ) : Type 0 where
   -- a step is held unless each number of the next vector is at most H
   pub holds : (held M t k ≡ false) ↔ ((s : ℕ) → s < M .table .states → statesOf (M .table) k s ≡ true → shifted M t k s ≤ M .cap)
 
+-- the update of the node v: x and y become the largest of their candidates; if y rises, the plan becomes the first
+-- that attains it, else it stays; the other nodes keep their numbers and plans
+pub record UpdateLaw (M : Setting) (v : ℕ) (B : Book) : Type 0 where
+  pub upper : (b : Candidate) × FirstBest (CandidateOf M roundUp (B .hi) (B .x) v) b × (atZ (update M v B .x) v ≡ b .value)
+  pub lower : (b : Candidate) × FirstBest (CandidateOf M roundDown (B .lo) (B .y) v) b × (atZ (update M v B .y) v ≡ b .value)
+      × (atZ (B .y) v <ℤ b .value → exitAt (update M v B .plan) v ≡ b .exit)
+      × (b .value ≤ℤ atZ (B .y) v → exitAt (update M v B .plan) v ≡ exitAt (B .plan) v)
+  pub others : (w : ℕ) → (w ≡ v → ⊥)
+      → (atZ (update M v B .x) w ≡ atZ (B .x) w) × (atZ (update M v B .y) w ≡ atZ (B .y) w)
+      × (exitAt (update M v B .plan) w ≡ exitAt (B .plan) w)
+
 -- the book after j sweeps
 unfoldable pub sweptTimes : Setting → ℕ → Book → Book
 sweptTimes M zero B = B
@@ -122,6 +134,7 @@ pub record Meaning (M : Setting) : Type 0 where
   -- each node has a best candidate, the first of the largest
   pub candidates : (rounds : Rounding) (bounds values : List ℤ) (v : ℕ) → v < nodes (M .table)
       → (b : Candidate) × (bestOf M rounds bounds values v ≡ Some b) × FirstBest (CandidateOf M rounds bounds values v) b
+  pub updates : (v : ℕ) (B : Book) → v < nodes (M .table) → Lengths M B → UpdateLaw M v B
   pub distances : (t s : ℕ) → t < M .table .states → s < M .table .states → nodeOf (M .table) s ≡ nodeOf (M .table) t
       → DistanceLaw (M .table) t s
 

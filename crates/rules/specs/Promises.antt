@@ -3,7 +3,6 @@ use mathlib.Core.List.{List, _∷_}
 use Prim.Native.Nat.{ℕ, _^_, _<_}
 use lib.IntN.{ℤ, pos, _+ℤ_, _-ℤ_, _*ℤ_}
 use lib.Signed.{_≤ℤ_}
-use Rattle.table.specs.Table.{Table}
 use Rattle.table.specs.Limits.{Lawful}
 use Rattle.horizon.specs.Strategies.{Strategy, StatesOnly, Names, PlanNames, follow, scaledReward}
 use Rattle.horizon.specs.Potential.{constant}

@@ -6,13 +6,11 @@ use Prim.Native.Nat.{ℕ}
 use lib.IntN.{ℤ, pos, negℤ}
 use lib.ListN.{getD, length}
 use Rattle.std.specs.Iters.{counting}
-use Rattle.std.specs.declared.option.Option.{Option}
 use Rattle.std.specs.declared.option.Option.the-variants.{None}
 use Rattle.table.specs.Table.{Table}
 use Rattle.table.specs.Walk.{faultOf}
-use Rattle.table.specs.declared.fault.Fault.{Fault}
 use Rattle.components.specs.Nodes.{components, inComponent}
-use Rattle.rules.specs.Setting.{Setting, settingOf}
+use Rattle.rules.specs.Setting.{settingOf}
 use Rattle.rules.specs.Book.{Book, start}
 use Rattle.rules.specs.Refine.{Refined, refine}
 use Rattle.rules.specs.Sweep.{Swept, sweeps}

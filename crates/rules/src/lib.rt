@@ -1,5 +1,5 @@
 // The rules of refine, sweep and plan as definitions, and what every book that they lead to keeps.
-// Three functions below stand for one theorem each: the contract is the theorem, and the answer is the theorem's number.
+// Four functions below stand for one theorem each: the contract is the theorem, and the answer is the theorem's number.
 mod exit;
 
 pub use exit::Candidate;
@@ -9,6 +9,7 @@ ghost use Rattle.rules.specs.Setting.{scaleInUse, capInUse};
 ghost use Rattle.rules.specs.Fit.{EveryFit};
 ghost use lib.ListN.{length};
 ghost use Rattle.rules.specs.Worked.{workedModels, WorkedModels};
+ghost use Rattle.rules.specs.Meaning.{EveryMeaning};
 ghost use Rattle.rules.specs.Promises.{EveryBook, EverySound};
 
 // For every lawful table, scale and cap, and every list of refines, sweeps and closes from the start:
@@ -34,6 +35,14 @@ pub fn books_fit() -> u8
     ensures theorem { λ _. ⌜ EveryFit ⌝ }
 {
     3u8
+}
+
+// What the rules say in plain words: what is largest, first and nearest, what a step and an update make, and when refines and sweeps end.
+pub fn rule_meanings() -> u8
+    ensures number { λ r. ⌜ r ≡ 4 ⌝ }
+    ensures theorem { λ _. ⌜ EveryMeaning ⌝ }
+{
+    4u8
 }
 
 // F: a bound is a whole multiple of 1 / F.

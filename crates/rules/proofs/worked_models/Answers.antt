@@ -1,5 +1,4 @@
 use mathlib.Core.Path.{refl}
-use Rattle.table.specs.Walk.{faultOf}
 use Rattle.horizon.specs.Means.{roundDown, roundUp}
 use Rattle.components.specs.Below.{first, grid}
 use Rattle.components.specs.Inside.{via, reach, pass, passes, inside}
