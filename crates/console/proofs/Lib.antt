@@ -1,0 +1,3 @@
+pub mod Runs
+pub mod Figures
+pub mod Fields
