@@ -1,3 +1,4 @@
 pub mod Runs
 pub mod Figures
 pub mod Fields
+pub mod Spelling
