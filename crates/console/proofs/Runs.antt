@@ -93,3 +93,7 @@ number-none first run many = cond-both (leb 1 (length run) && leb (length run) 1
     (λ t. let p = and-parts (leb 1 (length run)) (leb (length run) 18) t in
     absurd (omega (arith, many (leb-true 1 (length run) (p .0)), leb-true (length run) 18 (p .1))))
     (λ _. refl)
+
+-- past the input there is no line
+pub next-past : (input : List ℕ) (from : ℕ) → length input ≤ from → None ≡ nextLine input from
+next-past input from l = sym (cond-false (ltb from (length input)) _ None (le-ltb from (length input) l))

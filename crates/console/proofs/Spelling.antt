@@ -14,11 +14,12 @@ use Rattle.std.specs.Text.{asciiDigit}
 use Rattle.std.specs.declared.option.Option.{Option}
 use Rattle.std.specs.declared.option.Option.the-variants.{Some, None}
 use Rattle.std.specs.shelf.Text.{allDigits}
-use Rattle.console.specs.Lines.{spaced}
+use Rattle.console.specs.Lines.{lineOf}
 use Rattle.console.specs.Commands.{andThen, digitRun, numberAt, argumentAt, endedAt, refineIn, sweepIn, quoteIn, commandBy, commandOf}
 use Rattle.console.specs.Spelling.{letterOf, argumentsOf, Decimal, Decimals, Spells, CommandLaw}
 use Rattle.console.specs.declared.command.Command.{Command}
 use Rattle.console.specs.declared.command.Command.the-variants.{Refine, Sweep, Quote, Plan, Close}
+use Rattle.console.proofs.Fields.{spaced, line-spaced}
 use Rattle.console.proofs.Runs.{take-run, digits-run, argument-is, number-some}
 
 -- which way a choice went that gave something
@@ -59,9 +60,11 @@ found line from a h =
                 let end : from + 1 + length run ≡ a .1 = cc (k .1) in
                 let whole : run ++ drop (a .1) line ≡ rest =
                 ap (λ e. run ++ drop e line) (sym end) ∙ ap (λ xs. run ++ xs) (sym (drop-drop (length run) (from + 1) line))
-                ∙ ap (λ xs. xs ++ drop (length run) rest) (sym (take-run rest)) ∙ take-append-drop (length run) rest in
-                (run, record { some = leb-true 1 (length run) (p .0); few = leb-true (length run) 18 (p .1); digits = digits-run rest; worth = worth },
-                blank line from (eqb-true (getD line from 0) 32 (b .0)) ∙ ap (λ xs. 32 ∷ xs) (sym whole)))
+                ∙ ap (λ xs. xs ++ drop (length run) rest) (sym (take-run rest)) ∙ take-append-drop (length run) rest in (
+                  run,
+                  record { some = leb-true 1 (length run) (p .0); few = leb-true (length run) 18 (p .1); digits = digits-run rest; worth = worth },
+                  blank line from (eqb-true (getD line from 0) 32 (b .0)) ∙ ap (λ xs. 32 ∷ xs) (sym whole),
+                ))
             | inr k ↦ absurd (let z : _≡_ {A = ℕ} 0 1 = cc (k .1) in omega arith)
           ])
       | inr b ↦ absurd (let z : _≡_ {A = ℕ} 0 1 = cc (b .1) in omega arith)
@@ -89,7 +92,7 @@ head (x ∷ xs) b l e = ap (λ y. y ∷ xs) e
 spells : (line : List ℕ) (c d : Command) → 0 < letterOf c → getD line 0 0 ≡ letterOf c → Tail (argumentsOf c) line 1 → c ≡ d → Spells d line
 spells line c d l h t same =
     subst (λ x. Spells x line) same
-    (record { words = t .words; decimals = t .decimals; whole = head line (letterOf c) l h ∙ ap (λ xs. letterOf c ∷ xs) (t .rest) })
+    (record { words = t .words; decimals = t .decimals; whole = head line (letterOf c) l h ∙ ap (λ xs. letterOf c ∷ xs) (t .rest) ∙ sym (line-spaced (letterOf c ∷ []) (t .words)) })
 
 refine-spells : (line : List ℕ) (d : Command) → getD line 0 0 ≡ 82 → refineIn line ≡ Some d → Spells d line
 refine-spells line d h e =
@@ -158,9 +161,10 @@ written : (line : List ℕ) (from n : ℕ) (word : List ℕ) (words : List (List
 written line from n word words h d =
     let first : getD line from 0 ≡ 32 = ap (λ k. getD line k 0) (omega arith) ∙ sym (getD-drop from line 0 0) ∙ ap (λ xs. getD xs 0 0) h in
     let rest : drop (from + 1) line ≡ word ++ spaced words = sym (drop-drop 1 from line) ∙ ap (drop 1) h in
-    let run : digitRun (drop (from + 1) line) ≡ word = ap digitRun rest ∙ run-word word words (d .digits) in
-    (argument-is line from first ∙ ap (numberAt (from + 1)) run ∙ number-some (from + 1) word (d .some) (d .few) ∙ ap (λ v. Some (v, from + 1 + length word)) (d .worth),
-    sym (drop-drop (length word) (from + 1) line) ∙ ap (drop (length word)) rest ∙ drop-at word (spaced words) (length word) refl)
+    let run : digitRun (drop (from + 1) line) ≡ word = ap digitRun rest ∙ run-word word words (d .digits) in (
+      argument-is line from first ∙ ap (numberAt (from + 1)) run ∙ number-some (from + 1) word (d .some) (d .few) ∙ ap (λ v. Some (v, from + 1 + length word)) (d .worth),
+      sym (drop-drop (length word) (from + 1) line) ∙ ap (drop (length word)) rest ∙ drop-at word (spaced words) (length word) refl,
+    )
 
 end-read : (line : List ℕ) (at : ℕ) (c : Command) → drop at line ≡ [] → endedAt line at c ≡ Some c
 end-read line at c h =
@@ -211,7 +215,7 @@ spelled-reads line Close [] d h =
 spelled-reads line Close (u ∷ us) d h = absurd d
 
 reads : (line : List ℕ) (c : Command) → Spells c line → commandOf line ≡ Some c
-reads line c s = spelled-reads line c (s .words) (s .decimals) (s .whole)
+reads line c s = spelled-reads line c (s .words) (s .decimals) (s .whole ∙ line-spaced (letterOf c ∷ []) (s .words))
 
 none-spelled : (line : List ℕ) (o : Option Command) → commandOf line ≡ o → ((c : Command) → Spells c line → ⊥) → o ≡ None
 none-spelled line None e h = refl
@@ -221,5 +225,5 @@ pub command-law : (line : List ℕ) → CommandLaw line
 command-law line = record {
   spelled = λ c. (read-spells line c, reads line c);
   single = λ c d s t. (let p = reads line c s in let q = reads line d t in cc);
-  refused = (λ e c s. (let p = reads line c s in let z : _≡_ {A = ℕ} 0 1 = cc in omega arith), none-spelled line (commandOf line) refl)
-  }
+  refused = (λ e c s. (let p = reads line c s in let z : _≡_ {A = ℕ} 0 1 = cc in omega arith), none-spelled line (commandOf line) refl);
+}

@@ -8,7 +8,7 @@ use lib.ListN.{length}
 use Rattle.std.specs.Reads.{value}
 use Rattle.std.specs.declared.option.Option.the-variants.{Some, None}
 use Rattle.std.specs.shelf.Text.{allDigits}
-use Rattle.console.specs.Lines.{spaced}
+use Rattle.console.specs.Lines.{lineOf}
 use Rattle.console.specs.Commands.{commandOf}
 use Rattle.console.specs.declared.command.Command.{Command}
 use Rattle.console.specs.declared.command.Command.the-variants.{Refine, Sweep, Quote, Plan, Close}
@@ -47,7 +47,7 @@ Decimals (number ∷ numbers) (word ∷ words) = Decimal number word × Decimals
 pub record Spells (command : Command) (line : List ℕ) : Type 0 where
   pub words : List (List ℕ)
   pub decimals : Decimals (argumentsOf command) words
-  pub whole : line ≡ letterOf command ∷ spaced words
+  pub whole : line ≡ lineOf (letterOf command ∷ []) words
 
 -- a line reads as the command that it spells; it spells at most one, and reads as none if it spells none
 pub record CommandLaw (line : List ℕ) : Type 0 where

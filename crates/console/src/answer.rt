@@ -4,8 +4,8 @@ ghost use mathlib.Core.List.{[], _∷_, _++_, map};
 ghost use lib.IntN.{pos};
 ghost use Rattle.std.specs.Of.String.{string-bytes};
 ghost use Rattle.std.specs.Vec.{made};
-ghost use Rattle.std.specs.Written.{decimal};
-ghost use Rattle.console.specs.Lines.{answerLine};
+ghost use Rattle.std.specs.Written.{decimal, signed};
+ghost use Rattle.console.specs.Lines.{lineOf, answerLine, AnswerLaw};
 use std::alloc::AllocError;
 use std::alloc::Global;
 
@@ -20,7 +20,10 @@ pub fn loaded_line(heap: Global, states: u64, components: u64) -> Result<String,
 pub fn refine_line(heap: Global, steps: u64, lo: i64, hi: i64) -> Result<String, AllocError>
     ensures { λ r. ⌜ made r (λ t. string-bytes t ≡ answerLine 82 (pos steps ∷ lo ∷ hi ∷ [])) ⌝ }
 {
-    format!(heap, "R {steps} {lo} {hi}")
+    let mut line = format!(heap, "R {steps}")?;
+    push_signed(heap, &mut line, lo)?;
+    push_signed(heap, &mut line, hi)?;
+    Ok(line)
 }
 
 // A sweep call: the sweeps made.
@@ -34,17 +37,21 @@ pub fn sweep_line(heap: Global, sweeps: u64) -> Result<String, AllocError>
 pub fn quote_line(heap: Global, lower: i64, upper: i64, mark: bool) -> Result<String, AllocError>
     ensures { λ r. ⌜ made r (λ t. string-bytes t ≡ answerLine 81 (lower ∷ upper ∷ pos (cond mark 1 0) ∷ [])) ⌝ }
 {
-    let close: u64 = if mark { 1 } else { 0 };
-    format!(heap, "Q {lower} {upper} {close}")
+    let mut line = String::from_str(heap, "Q")?;
+    push_signed(heap, &mut line, lower)?;
+    push_signed(heap, &mut line, upper)?;
+    push_number(heap, &mut line, u64::from(mark))?;
+    Ok(line)
 }
 
-// A plan: the choice of each state.
+// A plan: the choice of each state. It also promises that every answer line can be read back.
 pub fn plan_line(heap: Global, choices: &[u32]) -> Result<String, AllocError>
-    ensures { λ r. ⌜ made r (λ t. string-bytes t ≡ answerLine 80 (map pos (now (choices .entry)))) ⌝ }
+    ensures bytes { λ r. ⌜ made r (λ t. string-bytes t ≡ answerLine 80 (map pos (now (choices .entry)))) ⌝ }
+    ensures law { λ _. ⌜ AnswerLaw ⌝ }
 {
     let mut line = String::from_str(heap, "P")?;
     for choice in choices {
-        push_field(heap, &mut line, u64::from(*choice))?;
+        push_number(heap, &mut line, u64::from(*choice))?;
     }
     Ok(line)
 }
@@ -61,15 +68,31 @@ pub fn refusal_line(heap: Global, number: u64, places: &[u64]) -> Result<String,
     ensures { λ r. ⌜ made r (λ t. string-bytes t ≡ answerLine 69 (pos number ∷ map pos (now (places .entry)))) ⌝ }
 {
     let mut line = format!(heap, "E {number}")?;
-    for place in places {
-        push_field(heap, &mut line, *place)?;
-    }
+    push_numbers(heap, &mut line, places)?;
     Ok(line)
 }
 
+// Adds each number after a blank.
+fn push_numbers(heap: Global, line: &mut String, numbers: &[u64]) -> Result<(), AllocError>
+    ensures { λ r. ⌜ made r (λ _. string-bytes (now (line .exit)) ≡ lineOf (string-bytes (now (line .entry))) (map signed (map pos (now (numbers .entry))))) ⌝ }
+{
+    for number in numbers {
+        push_number(heap, line, *number)?;
+    }
+    Ok(())
+}
+
 // Adds a blank and the number.
-fn push_field(heap: Global, line: &mut String, number: u64) -> Result<(), AllocError>
+fn push_number(heap: Global, line: &mut String, number: u64) -> Result<(), AllocError>
     ensures { λ r. ⌜ made r (λ _. string-bytes (now (line .exit)) ≡ string-bytes (now (line .entry)) ++ (32 ∷ decimal number)) ⌝ }
+{
+    let field = format!(heap, " {number}")?;
+    line.push_str(field.as_str())
+}
+
+// Adds a blank and the number, with a minus if it is negative.
+fn push_signed(heap: Global, line: &mut String, number: i64) -> Result<(), AllocError>
+    ensures { λ r. ⌜ made r (λ _. string-bytes (now (line .exit)) ≡ string-bytes (now (line .entry)) ++ (32 ∷ signed number)) ⌝ }
 {
     let field = format!(heap, " {number}")?;
     line.push_str(field.as_str())

@@ -5,6 +5,7 @@ ghost use lib.ListN.{length, drop};
 ghost use Rattle.std.specs.Reads.{value};
 ghost use Rattle.std.specs.shelf.Text.{allDigits};
 ghost use Rattle.console.specs.Commands.{digitRun, argumentAt, endedAt, refineIn, sweepIn, quoteIn, commandBy, commandOf};
+ghost use Rattle.console.specs.Spelling.{CommandLaw};
 
 // What a command line asks of the engine.
 #[derive(Clone, Copy, PartialEq, Eq, Debug)]
@@ -29,7 +30,8 @@ const MOST_DIGITS: usize = 18;
 
 // The command that the line spells, its line feed left out; none where it spells no command.
 pub fn read_command(line: &[u8]) -> Option<Command>
-    ensures { λ r. ⌜ r ≡ commandOf (now (line .entry)) ⌝ }
+    ensures reads { λ r. ⌜ r ≡ commandOf (now (line .entry)) ⌝ }
+    ensures law { λ _. ⌜ CommandLaw (now (line .entry)) ⌝ }
 {
     if line.is_empty() {
         return None;

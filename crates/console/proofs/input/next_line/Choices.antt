@@ -6,7 +6,7 @@ use Rattle.console.proofs.input.next_line.Given as given
 
 -- the rest of the line ends where the line ends
 abbrev pub Inv-loop-end : given.InvT-loop-end
-Inv-loop-end l = (lineEnd (l .input) (l .end) ≡ lineEnd (l .input) (l .from)) × (l .end ≤ length (l .input))
+Inv-loop-end l = (lineEnd (l .input) (l .end) ≡ lineEnd (l .input) (l .from)) × (l .from ≤ l .end) × (l .end ≤ length (l .input))
 
 abbrev pub μ-loop-end : given.MeasureT-loop-end
 μ-loop-end l = length (l .input) - l .end
