@@ -4,7 +4,7 @@ ghost use mathlib.Core.List.{[], _∷_, _++_, map};
 ghost use lib.IntN.{pos};
 ghost use Rattle.std.specs.Of.String.{string-bytes};
 ghost use Rattle.std.specs.Vec.{made};
-ghost use Rattle.std.specs.Written.{decimal, signed};
+ghost use Rattle.std.specs.Written.{signed};
 ghost use Rattle.console.specs.Lines.{lineOf, answerLine, AnswerLaw};
 use std::alloc::AllocError;
 use std::alloc::Global;
@@ -21,8 +21,8 @@ pub fn refine_line(heap: Global, steps: u64, lo: i64, hi: i64) -> Result<String,
     ensures { λ r. ⌜ made r (λ t. string-bytes t ≡ answerLine 82 (pos steps ∷ lo ∷ hi ∷ [])) ⌝ }
 {
     let mut line = format!(heap, "R {steps}")?;
-    push_signed(heap, &mut line, lo)?;
-    push_signed(heap, &mut line, hi)?;
+    push_number(heap, &mut line, i128::from(lo))?;
+    push_number(heap, &mut line, i128::from(hi))?;
     Ok(line)
 }
 
@@ -38,9 +38,9 @@ pub fn quote_line(heap: Global, lower: i64, upper: i64, mark: bool) -> Result<St
     ensures { λ r. ⌜ made r (λ t. string-bytes t ≡ answerLine 81 (lower ∷ upper ∷ pos (cond mark 1 0) ∷ [])) ⌝ }
 {
     let mut line = String::from_str(heap, "Q")?;
-    push_signed(heap, &mut line, lower)?;
-    push_signed(heap, &mut line, upper)?;
-    push_number(heap, &mut line, u64::from(mark))?;
+    push_number(heap, &mut line, i128::from(lower))?;
+    push_number(heap, &mut line, i128::from(upper))?;
+    push_number(heap, &mut line, i128::from(mark))?;
     Ok(line)
 }
 
@@ -51,7 +51,7 @@ pub fn plan_line(heap: Global, choices: &[u32]) -> Result<String, AllocError>
 {
     let mut line = String::from_str(heap, "P")?;
     for choice in choices {
-        push_number(heap, &mut line, u64::from(*choice))?;
+        push_number(heap, &mut line, i128::from(*choice))?;
     }
     Ok(line)
 }
@@ -77,21 +77,13 @@ fn push_numbers(heap: Global, line: &mut String, numbers: &[u64]) -> Result<(), 
     ensures { λ r. ⌜ made r (λ _. string-bytes (now (line .exit)) ≡ lineOf (string-bytes (now (line .entry))) (map signed (map pos (now (numbers .entry))))) ⌝ }
 {
     for number in numbers {
-        push_number(heap, line, *number)?;
+        push_number(heap, line, i128::from(*number))?;
     }
     Ok(())
 }
 
-// Adds a blank and the number.
-fn push_number(heap: Global, line: &mut String, number: u64) -> Result<(), AllocError>
-    ensures { λ r. ⌜ made r (λ _. string-bytes (now (line .exit)) ≡ string-bytes (now (line .entry)) ++ (32 ∷ decimal number)) ⌝ }
-{
-    let field = format!(heap, " {number}")?;
-    line.push_str(field.as_str())
-}
-
 // Adds a blank and the number, with a minus if it is negative.
-fn push_signed(heap: Global, line: &mut String, number: i64) -> Result<(), AllocError>
+fn push_number(heap: Global, line: &mut String, number: i128) -> Result<(), AllocError>
     ensures { λ r. ⌜ made r (λ _. string-bytes (now (line .exit)) ≡ string-bytes (now (line .entry)) ++ (32 ∷ signed number)) ⌝ }
 {
     let field = format!(heap, " {number}")?;

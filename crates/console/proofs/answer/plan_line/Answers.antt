@@ -4,8 +4,9 @@ use native.Mathlib.Omega.{arith}
 use borrow.Author.Needs.{needs}
 use lib.IntN.{pos}
 use Rattle.std.proofs.shelf.Lists.{take-all}
+use Rattle.std.specs.Of.String.{string-bytes}
 use Rattle.console.specs.Lines.{answerLine}
-use Rattle.console.proofs.Fields.{fields-more}
+use Rattle.console.proofs.Fields.{written-more}
 use Rattle.console.proofs.ReadBack.{answer-law}
 use Rattle.console.proofs.answer.plan_line.Needs as need
 
@@ -17,9 +18,8 @@ returns-in-Break-push-number c = record { bytes = search needs; law = answer-law
 
 pub loop-choice-again : need.loop-choice-again
 loop-choice-again c =
-    let more = fields-more (80 ∷ []) (c .args .choices .now) (c .loop-choice .choice-index) (omega arith) in
-    let pushed = c .in-Continue-push-number .ensures tt in
-    cc
+    written-more (80 ∷ []) (string-bytes (c .loop-choice .line)) _ (c .args .choices .now) (c .loop-choice .choice-index) (c .from .result)
+    (omega arith) (omega (arith, c .typed .choices (c .loop-choice .choice-index))) (c .from .ensures) (c .loop-choice .inv) (c .in-Continue-push-number .ensures tt)
 
 pub returns : need.returns
 returns c =

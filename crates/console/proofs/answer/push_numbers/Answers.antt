@@ -6,14 +6,13 @@ use Rattle.std.proofs.shelf.Lists.{take-all}
 use Rattle.std.specs.Of.String.{string-bytes}
 use Rattle.std.specs.Written.{signed}
 use Rattle.console.specs.Lines.{lineOf}
-use Rattle.console.proofs.Fields.{fields-more}
+use Rattle.console.proofs.Fields.{written-more}
 use Rattle.console.proofs.answer.push_numbers.Needs as need
 
 pub loop-number-again : need.loop-number-again
 loop-number-again c =
-    let more = fields-more (string-bytes (c .args .line .now)) (c .args .numbers .now) (c .loop-number .number-index) (omega arith) in
-    let pushed = c .in-Continue-push-number .ensures tt in
-    cc
+    written-more (string-bytes (c .args .line .now)) (string-bytes (c .loop-number .line)) _ (c .args .numbers .now) (c .loop-number .number-index) (c .from .result)
+    (omega arith) (omega (arith, c .typed .numbers (c .loop-number .number-index))) (c .from .ensures) (c .loop-number .inv) (c .in-Continue-push-number .ensures tt)
 
 pub returns : need.returns
 returns c =
