@@ -12,7 +12,8 @@ use Rattle.std.proofs.shelf.Lists.{drop-all, drop-drop, length-append}
 use Rattle.std.proofs.shelf.Tests.{cases-lt, cond-true, cond-false, cond-both, eqb-true, eqb-false, lt-ltb, le-ltb, ltb-false}
 use Rattle.std.specs.declared.option.Option.the-variants.{Some, None}
 use Rattle.std.specs.shelf.Lists.{All, joined}
-use Rattle.console.specs.Lines.{upTo, lineEnd, nextLine, extended, linesOf, missing, linesBy, LinesLaw, Within}
+use Rattle.console.specs.Lines.{upTo}
+use Rattle.console.specs.Inputs.{lineEnd, nextLine, extended, linesOf, missing, linesBy, LinesLaw}
 
 -- one byte more: what it means for the first line
 grown : (t : Bool) (b : ℕ) (bs : List ℕ) → extended b (linesOf bs) ≡ (b ∷ upTo 10 bs) ∷ linesOf (drop (suc (length (upTo 10 bs))) bs)

@@ -2,19 +2,20 @@
 use mathlib.Core.Path.{_≡_, refl, sym, ap, _∙_}
 use mathlib.Core.Bool.{true, false}
 use mathlib.Core.List.{List, [], _∷_, _++_, map}
-use mathlib.Core.Logic.{_≢_}
 use Prim.Native.Nat.{ℕ, suc, _+_, _^_, _<_, _≤_}
 use native.Mathlib.Omega.{arith}
 use lib.Dec.{eqb, leb}
 use lib.IntN.{ℤ, pos, negsuc, negℤ}
+use lib.ListN.{getD}
 use Rattle.std.proofs.shelf.Decimals.{digits-decimal, value-decimal}
+use Rattle.std.proofs.shelf.Elements.{all-append, all-has}
 use Rattle.std.proofs.shelf.Tests.{and-parts, cond-false, leb-true, ne-eqb}
 use Rattle.std.specs.Reads.{value}
 use Rattle.std.specs.Text.{asciiDigit}
 use Rattle.std.specs.Written.{decimal, signed}
-use Rattle.std.specs.shelf.Lists.{All}
+use Rattle.std.specs.shelf.Lists.{All, Has}
 use Rattle.std.specs.shelf.Text.{allDigits}
-use Rattle.console.specs.Lines.{upTo, answerLine, fieldsOf, numberIn, Small, AnswerLaw}
+use Rattle.console.specs.Lines.{upTo, lineOf, answerLine, fieldsOf, numberIn, Small, letters, AnswerLaw}
 use Rattle.console.proofs.Fields.{spaced, line-spaced}
 use Rattle.console.proofs.Figures.{own}
 
@@ -73,18 +74,54 @@ numbers-signed : (zs : List ℤ) → All Small zs → map numberIn (map signed z
 numbers-signed [] h = refl
 numbers-signed (z ∷ zs) h = ap (λ x. x ∷ map numberIn (map signed zs)) (number-signed z (h .0)) ∙ ap (λ xs. z ∷ xs) (numbers-signed zs (h .1))
 
-first : (letter : ℕ) (numbers : List ℤ) → letter ≢ 32 → upTo 32 (answerLine letter numbers) ≡ letter ∷ []
-first letter zs ne =
+-- a letter of an answer is neither a blank nor a line feed
+capital : (letter : ℕ) → Has letters letter → 65 ≤ letter
+capital letter h = all-has (λ b. 65 ≤ b) letters letter (omega arith, (omega arith, (omega arith, (omega arith, (omega arith, (omega arith, (omega arith, tt))))))) h
+
+no-blank : (letter : ℕ) → Has letters letter → eqb letter 32 ≡ false
+no-blank letter h = let l = capital letter h in ne-eqb letter 32 (λ e. omega arith)
+
+first : (letter : ℕ) (numbers : List ℤ) → Has letters letter → upTo 32 (answerLine letter numbers) ≡ letter ∷ []
+first letter zs h =
     ap (upTo 32) (line-spaced (letter ∷ []) (map signed zs))
-    ∙ cond-false (eqb letter 32) [] (letter ∷ upTo 32 (spaced (map signed zs))) (ne-eqb letter 32 ne)
+    ∙ cond-false (eqb letter 32) [] (letter ∷ upTo 32 (spaced (map signed zs))) (no-blank letter h)
     ∙ ap (λ xs. letter ∷ xs) (word-end (map signed zs))
 
-fields : (letter : ℕ) (numbers : List ℤ) → letter ≢ 32 → All Small numbers → map numberIn (fieldsOf (answerLine letter numbers)) ≡ numbers
-fields letter zs ne h =
+fields : (letter : ℕ) (numbers : List ℤ) → Has letters letter → All Small numbers → map numberIn (fieldsOf (answerLine letter numbers)) ≡ numbers
+fields letter zs h small =
     ap (map numberIn) (ap fieldsOf (line-spaced (letter ∷ []) (map signed zs))
-    ∙ past (letter ∷ []) (spaced (map signed zs)) (ne-eqb letter 32 ne, tt)
-    ∙ fields-spaced (map signed zs) (clear-all zs h))
-    ∙ numbers-signed zs h
+    ∙ past (letter ∷ []) (spaced (map signed zs)) (no-blank letter h, tt)
+    ∙ fields-spaced (map signed zs) (clear-all zs small))
+    ∙ numbers-signed zs small
+
+told : (letter other : ℕ) (numbers others : List ℤ) → Has letters letter → Has letters other → All Small numbers → All Small others
+    → answerLine letter numbers ≡ answerLine other others → (letter ≡ other) × (numbers ≡ others)
+told b d ys zs hb hd sy sz e =
+    let front : b ∷ [] ≡ d ∷ [] = sym (first b ys hb) ∙ ap (upTo 32) e ∙ first d zs hd in
+    (ap (λ xs. getD xs 0 0) front, sym (fields b ys hb sy) ∙ ap (λ bs. map numberIn (fieldsOf bs)) e ∙ fields d zs hd sz)
+
+-- no line feed among the bytes
+abbrev Unfed : List ℕ → Type 0
+Unfed bs = All (λ b. b ≡ 10 → ⊥) bs
+
+unfed-digits : (ds : List ℕ) → allDigits ds ≡ true → Unfed ds
+unfed-digits [] h = tt
+unfed-digits (d ∷ ds) h =
+    let p = and-parts (asciiDigit d) (allDigits ds) h in
+    let l = at-least d (p .0) in
+    ((λ e. omega arith), unfed-digits ds (p .1))
+
+unfed-signed : (z : ℤ) → Small z → Unfed (signed z)
+unfed-signed (pos n) h = unfed-digits (decimal n) (digits-decimal own n h)
+unfed-signed (negsuc n) h = ((λ e. omega arith), unfed-digits (decimal (suc n)) (digits-decimal own (suc n) h))
+
+unfed-line : (start : List ℕ) (zs : List ℤ) → Unfed start → All Small zs → Unfed (lineOf start (map signed zs))
+unfed-line start [] u h = u
+unfed-line start (z ∷ zs) u h =
+    unfed-line (start ++ (32 ∷ signed z)) zs (all-append (λ b. b ≡ 10 → ⊥) start (32 ∷ signed z) u ((λ e. omega arith), unfed-signed z (h .0))) (h .1)
+
+single : (letter : ℕ) (numbers : List ℤ) → Has letters letter → All Small numbers → Unfed (answerLine letter numbers)
+single letter zs h small = let l = capital letter h in unfed-line (letter ∷ []) zs ((λ e. omega arith), tt) small
 
 pub answer-law : AnswerLaw
-answer-law = record { first = first; fields = fields }
+answer-law = record { single = single; first = first; fields = fields; told = told }

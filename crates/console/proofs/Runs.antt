@@ -14,7 +14,8 @@ use Rattle.std.specs.Text.{asciiDigit}
 use Rattle.std.specs.shelf.Text.{allDigits}
 use Rattle.std.specs.declared.option.Option.the-variants.{Some, None}
 use Rattle.console.specs.Commands.{digitRun, numberAt, argumentAt}
-use Rattle.console.specs.Lines.{upTo, lineEnd, nextLine}
+use Rattle.console.specs.Lines.{upTo}
+use Rattle.console.specs.Inputs.{lineEnd, nextLine}
 
 -- a digit: the run goes on after it
 pub run-more : (bs : List ℕ) (i : ℕ) → i < length bs → asciiDigit (getD bs i 0) ≡ true → length (digitRun (drop i bs)) ≡ length (digitRun (drop (i + 1) bs)) + 1

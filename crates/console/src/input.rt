@@ -1,5 +1,5 @@
 ghost use mathlib.Core.Path.{_≡_};
-ghost use Rattle.console.specs.Lines.{nextLine, LinesLaw, Within};
+ghost use Rattle.console.specs.Inputs.{nextLine, LinesLaw, Within};
 
 // Where the line that begins at `from` ends, and where the next line begins; none at the end of the input.
 pub fn next_line(input: &[u8], from: usize) -> Option<(usize, usize)>

@@ -1,7 +1,7 @@
 use Prim.Native.Nat.{_-_, _≤_}
 use mathlib.Core.Path.{_≡_}
 use lib.ListN.{length}
-use Rattle.console.specs.Lines.{lineEnd}
+use Rattle.console.specs.Inputs.{lineEnd}
 use Rattle.console.proofs.input.next_line.Given as given
 
 -- the rest of the line ends where the line ends
