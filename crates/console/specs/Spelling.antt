@@ -13,7 +13,7 @@ use Rattle.console.specs.Commands.{commandOf}
 use Rattle.console.specs.declared.command.Command.{Command}
 use Rattle.console.specs.declared.command.Command.the-variants.{Refine, Sweep, Quote, Plan, Close}
 
--- the letter of a command
+-- the letter of a command: R, S, Q, P or C
 abbrev pub letterOf : Command → ℕ
 letterOf (Refine component steps width) = 82
 letterOf (Sweep count) = 83

@@ -9,14 +9,14 @@ ghost use Rattle.console.specs.Lines.{lineOf, answerLine, AnswerLaw};
 use std::alloc::AllocError;
 use std::alloc::Global;
 
-// A model is loaded: how many states and how many components it has.
+// `L states components`: a model is loaded.
 pub fn loaded_line(heap: Global, states: u64, components: u64) -> Result<String, AllocError>
     ensures { λ r. ⌜ made r (λ t. string-bytes t ≡ answerLine 76 (pos states ∷ pos components ∷ [])) ⌝ }
 {
     format!(heap, "L {states} {components}")
 }
 
-// A refine: the steps made, and the component's bounds then.
+// `R steps lo hi`: the steps that a refine made, and the component's bounds then.
 pub fn refine_line(heap: Global, steps: u64, lo: i64, hi: i64) -> Result<String, AllocError>
     ensures { λ r. ⌜ made r (λ t. string-bytes t ≡ answerLine 82 (pos steps ∷ lo ∷ hi ∷ [])) ⌝ }
 {
@@ -26,14 +26,14 @@ pub fn refine_line(heap: Global, steps: u64, lo: i64, hi: i64) -> Result<String,
     Ok(line)
 }
 
-// A sweep call: the sweeps made.
+// `S sweeps`: the sweeps made.
 pub fn sweep_line(heap: Global, sweeps: u64) -> Result<String, AllocError>
     ensures { λ r. ⌜ made r (λ t. string-bytes t ≡ answerLine 83 (pos sweeps ∷ [])) ⌝ }
 {
     format!(heap, "S {sweeps}")
 }
 
-// A quote: the state's bounds, and 1 if they are within the width that was asked for, else 0.
+// `Q lower upper mark`: the bounds of a state, and 1 if they are as close as was asked for, else 0.
 pub fn quote_line(heap: Global, lower: i64, upper: i64, mark: bool) -> Result<String, AllocError>
     ensures { λ r. ⌜ made r (λ t. string-bytes t ≡ answerLine 81 (lower ∷ upper ∷ pos (cond mark 1 0) ∷ [])) ⌝ }
 {
@@ -44,7 +44,7 @@ pub fn quote_line(heap: Global, lower: i64, upper: i64, mark: bool) -> Result<St
     Ok(line)
 }
 
-// A plan: the choice of each state. It also promises that every answer line can be read back.
+// `P` and the choice of each state. The contract has the law of all answer lines too: one reads back as what was written.
 pub fn plan_line(heap: Global, choices: &[u32]) -> Result<String, AllocError>
     ensures bytes { λ r. ⌜ made r (λ t. string-bytes t ≡ answerLine 80 (map pos (now (choices .entry)))) ⌝ }
     ensures law { λ _. ⌜ AnswerLaw ⌝ }
@@ -56,14 +56,14 @@ pub fn plan_line(heap: Global, choices: &[u32]) -> Result<String, AllocError>
     Ok(line)
 }
 
-// A close.
+// `C`: the engine is back at its start.
 pub fn close_line(heap: Global) -> Result<String, AllocError>
     ensures { λ r. ⌜ made r (λ t. string-bytes t ≡ answerLine 67 []) ⌝ }
 {
     String::from_str(heap, "C")
 }
 
-// A refusal: its number and its places.
+// `E number` and the places: a refusal.
 pub fn refusal_line(heap: Global, number: u64, places: &[u64]) -> Result<String, AllocError>
     ensures { λ r. ⌜ made r (λ t. string-bytes t ≡ answerLine 69 (pos number ∷ map pos (now (places .entry)))) ⌝ }
 {
