@@ -2,5 +2,5 @@ pub mod Runs
 pub mod Figures
 pub mod Fields
 pub mod Spelling
-pub mod Parts
+pub mod InputLines
 pub mod ReadBack

@@ -8,7 +8,7 @@ use native.Mathlib.Omega.{arith}
 use lib.Dec.{eqb, leb, ltb}
 use lib.ListN.{length, getD, take, drop}
 use Rattle.std.proofs.shelf.Lists.{drop-more, drop-all, getD-past}
-use Rattle.std.proofs.shelf.Tests.{cond-true, cond-false, cond-both, and-from, and-parts, eq-eqb, lt-ltb, le-ltb, le-leb, leb-true}
+use Rattle.std.proofs.shelf.Tests.{cond-true, cond-false, cond-both, and-from, eq-eqb, lt-ltb, le-ltb, le-leb}
 use Rattle.std.specs.Reads.{value}
 use Rattle.std.specs.Text.{asciiDigit}
 use Rattle.std.specs.shelf.Text.{allDigits}
@@ -88,12 +88,6 @@ argument-is line from h = cond-true (eqb (getD line from 0) 32) _ _ (eq-eqb (get
 pub number-some : (first : ℕ) (run : List ℕ) → 1 ≤ length run → length run ≤ 18 → numberAt first run ≡ Some (value 10 run, first + length run)
 number-some first run one few =
     cond-true (leb 1 (length run) && leb (length run) 18) _ _ (and-from (leb 1 (length run)) (leb (length run) 18) (le-leb 1 (length run) one) (le-leb (length run) 18 few))
-
-pub number-none : (first : ℕ) (run : List ℕ) → (1 ≤ length run → 18 < length run) → numberAt first run ≡ None
-number-none first run many = cond-both (leb 1 (length run) && leb (length run) 18) _ _ (λ o. o ≡ None)
-    (λ t. let p = and-parts (leb 1 (length run)) (leb (length run) 18) t in
-    absurd (omega (arith, many (leb-true 1 (length run) (p .0)), leb-true (length run) 18 (p .1))))
-    (λ _. refl)
 
 -- past the input there is no line
 pub next-past : (input : List ℕ) (from : ℕ) → length input ≤ from → None ≡ nextLine input from

@@ -2,11 +2,11 @@
 use mathlib.Core.Path.{_≡_, refl, sym, ap, subst, _∙_}
 use mathlib.Core.Bool.{Bool, true, false, cond, _&&_}
 use mathlib.Core.List.{List, [], _∷_, _++_}
-use mathlib.Core.Logic.{_⊎_, inl, inr, _↔_}
-use Prim.Native.Nat.{ℕ, suc, _+_, _<_, _≤_}
+use mathlib.Core.Logic.{_⊎_, inl, inr}
+use Prim.Native.Nat.{ℕ, _+_, _<_, _≤_}
 use native.Mathlib.Omega.{arith}
 use lib.Dec.{eqb, leb, ltb}
-use lib.ListN.{length, getD, take, drop, length-drop}
+use lib.ListN.{length, getD, drop, length-drop}
 use Rattle.std.proofs.shelf.Lists.{drop-more, drop-drop, drop-at, drop-all, getD-drop, getD-past, take-append-drop}
 use Rattle.std.proofs.shelf.Tests.{and-parts, cases-lt, cond-true, cond-false, eqb-true, le-ltb, leb-true, ltb-false}
 use Rattle.std.specs.Reads.{value}
@@ -14,7 +14,6 @@ use Rattle.std.specs.Text.{asciiDigit}
 use Rattle.std.specs.declared.option.Option.{Option}
 use Rattle.std.specs.declared.option.Option.the-variants.{Some, None}
 use Rattle.std.specs.shelf.Text.{allDigits}
-use Rattle.console.specs.Lines.{lineOf}
 use Rattle.console.specs.Commands.{andThen, digitRun, numberAt, argumentAt, endedAt, refineIn, sweepIn, quoteIn, commandBy, commandOf}
 use Rattle.console.specs.Spelling.{letterOf, argumentsOf, Decimal, Decimals, Spells, CommandLaw}
 use Rattle.console.specs.declared.command.Command.{Command}

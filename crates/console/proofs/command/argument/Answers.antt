@@ -1,13 +1,12 @@
-use mathlib.Core.Path.{_≡_, sym, ap, _∙_}
-use Prim.Native.Nat.{ℕ, _+_, _-_, _≤_}
+use mathlib.Core.Path.{_≡_, ap, _∙_}
+use Prim.Native.Nat.{ℕ, _+_, _-_}
 use native.Mathlib.Omega.{arith}
 use lib.ListN.{length, take, drop, length-drop}
 use Rattle.std.proofs.shelf.Tests.{ne-eqb}
 use Rattle.std.specs.Reads.{value}
-use Rattle.std.specs.declared.option.Option.the-variants.{Some}
 use Rattle.std.specs.shelf.Text.{allDigits}
 use Rattle.console.specs.Commands.{digitRun}
-use Rattle.console.proofs.Runs.{take-run, length-run, digits-run, argument-none, argument-past, argument-is, number-some, number-none}
+use Rattle.console.proofs.Runs.{take-run, length-run, digits-run, argument-none, argument-past, argument-is, number-some}
 use Rattle.console.proofs.command.argument.Needs as need
 use Rattle.console.proofs.command.argument.Needs.{then-from-line·by·then-from-line, then-from-line·by·else-from-line·then-line-from-ne32}
 

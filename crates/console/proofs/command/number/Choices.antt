@@ -1,5 +1,4 @@
 use mathlib.Core.Path.{_≡_}
-use Prim.Native.Nat.{_<_, _^_}
 use lib.ListN.{take}
 use Rattle.std.specs.Reads.{value}
 use Rattle.console.proofs.command.number.Given as given

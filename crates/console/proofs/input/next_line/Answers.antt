@@ -1,6 +1,6 @@
 use native.Mathlib.Omega.{arith}
 use Rattle.std.proofs.shelf.Tests.{eq-eqb, ne-eqb}
-use Rattle.console.proofs.Parts.{lines-law}
+use Rattle.console.proofs.InputLines.{lines-law}
 use Rattle.console.proofs.Runs.{upTo-more, upTo-end, upTo-all, next-past, next-fed, next-last}
 use Rattle.console.proofs.input.next_line.Needs as need
 
