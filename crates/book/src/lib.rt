@@ -3,5 +3,6 @@ mod best;
 mod book;
 mod frame;
 mod mean;
+mod play;
 
 pub use book::Book;
