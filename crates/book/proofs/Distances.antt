@@ -1,6 +1,6 @@
 -- Distances grow by one with each round of marks.
 use mathlib.Core.Path.{_≡_, refl, sym, ap, subst, _∙_}
-use mathlib.Core.Bool.{Bool, true, false, cond, _&&_, _||_}
+use mathlib.Core.Bool.{Bool, true, false, cond, _&&_}
 use mathlib.Core.List.{List}
 use mathlib.Core.Logic.{⊎-elim}
 use Prim.Native.Nat.{ℕ, zero, suc, _+_, _-_, _<_, _≤_}
@@ -8,7 +8,7 @@ use native.Mathlib.Omega.{arith}
 use lib.Dec.{eqb, leb, ltb}
 use lib.ListN.{length, set}
 use Rattle.std.proofs.shelf.Lists.{getD-set-same, getD-set-other}
-use Rattle.std.proofs.shelf.Tests.{cases-bool, cases-eq, cases-lt, both-ways, and-parts, and-from, and-left, or-cases, or-right, cond-true, cond-false, cond-both, eq-eqb, ne-eqb, eqb-true, lt-ltb, le-ltb, le-leb, lt-leb}
+use Rattle.std.proofs.shelf.Tests.{cases-bool, cases-eq, cases-lt, and-parts, and-from, and-left, or-cases, or-right, cond-true, cond-false, cond-both, eq-eqb, ne-eqb, eqb-true, lt-ltb, le-ltb, le-leb, lt-leb}
 use Rattle.table.specs.Table.{Table, successor}
 use Rattle.table.specs.Limits.{Lawful}
 use Rattle.components.specs.Below.{any, first}
@@ -19,8 +19,16 @@ use Rattle.rules.specs.Choosing.{at}
 use Rattle.rules.specs.Layers.{layer, level}
 use Rattle.rules.specs.Play.{enters, inward, distance, toward}
 use Rattle.rules.proofs.Nodes.{stays-node}
-use Rattle.book.specs.Plays.{firstInto, distanceTo, Partly, Measured}
+use Rattle.book.specs.Plays.{firstInto, Measured}
 use Rattle.book.proofs.Lists.{any-ext, first-ext, first-most, first-hit}
+
+-- the distance from s to t if it is at most k, and more than any distance if not
+abbrev pub distanceTo : Table → ℕ → ℕ → ℕ → ℕ
+distanceTo T t k s = cond (leb (distance T t s) k) (distance T t s) (T .states + 1)
+
+-- the marks of the states of node v are distances to t: up to k + 1 for those below s, and up to k for the others
+abbrev pub Partly : Table → ℕ → ℕ → ℕ → ℕ → List ℕ → Type 0
+Partly T v t k s marks = (u : ℕ) → u < T .states → nodeOf T u ≡ v → at marks u ≡ distanceTo T t (cond (ltb u s) (k + 1) k) u
 
 module _ (T : Table) (L : Lawful T) (t : ℕ) where
   abbrev near : ℕ → ℕ → Bool

@@ -2,8 +2,8 @@
 use mathlib.Core.Path.{_≡_}
 use mathlib.Core.Bool.{Bool, cond, _&&_}
 use mathlib.Core.List.{List}
-use Prim.Native.Nat.{ℕ, _<_, _+_}
-use lib.Dec.{eqb, leb, ltb}
+use Prim.Native.Nat.{ℕ, _<_}
+use lib.Dec.{eqb}
 use Rattle.table.specs.Table.{Table}
 use Rattle.components.specs.Below.{first}
 use Rattle.components.specs.Inside.{inside}
@@ -24,14 +24,6 @@ firstInto T marks mark s = first (T .choices s) (insideInto T marks mark s)
 -- s is a state of node v without a mark, and one of its inside choices has a branch to a state with the mark k
 abbrev pub Fresh : Table → ℕ → ℕ → ℕ → List ℕ → Type 0
 Fresh T v k s marks = (nodeOf T s ≡ v) × (T .states < at marks s) × (firstInto T marks k s < T .choices s)
-
--- the distance from s to t if it is at most k, and more than any distance if not
-abbrev pub distanceTo : Table → ℕ → ℕ → ℕ → ℕ
-distanceTo T t k s = cond (leb (distance T t s) k) (distance T t s) (T .states + 1)
-
--- the marks of the states of node v are distances to t: up to k + 1 for those below s, and up to k for the others
-abbrev pub Partly : Table → ℕ → ℕ → ℕ → ℕ → List ℕ → Type 0
-Partly T v t k s marks = (u : ℕ) → u < T .states → nodeOf T u ≡ v → at marks u ≡ distanceTo T t (cond (ltb u s) (k + 1) k) u
 
 -- the marks of the states of node v are their distances to t
 abbrev pub Measured : Table → ℕ → ℕ → List ℕ → Type 0

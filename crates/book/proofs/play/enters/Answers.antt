@@ -4,7 +4,6 @@ use Prim.Native.Nat.{ℕ}
 use native.Mathlib.Omega.{arith}
 use lib.Dec.{eqb}
 use Rattle.std.proofs.shelf.Tests.{eq-eqb, ne-eqb}
-use Rattle.components.specs.Below.{any}
 use Rattle.components.proofs.Below.{any-from}
 use Rattle.rules.specs.Choosing.{at}
 use Rattle.book.specs.Rows.{placeAt}

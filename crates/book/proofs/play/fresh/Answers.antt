@@ -1,11 +1,7 @@
-use mathlib.Core.Path.{_≡_, refl, _∙_}
-use mathlib.Core.Bool.{true, false}
-use Prim.Native.Nat.{ℕ, _<_, _≤_}
+use mathlib.Core.Path.{refl, _∙_}
+use mathlib.Core.Bool.{false}
 use native.Mathlib.Omega.{arith}
-use lib.ListN.{getD}
 use Rattle.std.proofs.shelf.Tests.{both-ways, ltb-true, ltb-false}
-use Rattle.book.specs.Frames.{tableOf}
-use Rattle.book.specs.Plays.{firstInto}
 use Rattle.book.proofs.Frames.{stateRow, choices-full}
 use Rattle.book.proofs.play.fresh.Needs as need
 

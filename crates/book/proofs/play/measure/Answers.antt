@@ -1,4 +1,4 @@
-use mathlib.Core.Path.{_≡_, refl, sym, subst, _∙_}
+use mathlib.Core.Path.{_≡_, sym, subst, _∙_}
 use mathlib.Core.Bool.{true, false}
 use mathlib.Core.List.{List}
 use mathlib.Core.Logic.{_≢_, ⊎-elim}
@@ -13,8 +13,9 @@ use Rattle.components.specs.Nodes.{nodeOf}
 use Rattle.rules.specs.Choosing.{at}
 use Rattle.rules.specs.Play.{distance}
 use Rattle.book.specs.Frames.{tableOf}
-use Rattle.book.specs.Plays.{firstInto, Partly}
+use Rattle.book.specs.Plays.{firstInto}
 use Rattle.book.proofs.Distances as distances
+use Rattle.book.proofs.Distances.{Partly}
 use Rattle.book.proofs.play.measure.Needs as need
 use Rattle.book.proofs.play.measure.Needs.{then-fresh, else-fresh}
 

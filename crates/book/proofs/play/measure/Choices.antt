@@ -5,7 +5,7 @@ use Rattle.components.specs.Nodes.{nodeOf}
 use Rattle.rules.specs.Choosing.{at}
 use Rattle.rules.specs.Play.{distance}
 use Rattle.book.specs.Frames.{tableOf}
-use Rattle.book.specs.Plays.{Partly}
+use Rattle.book.proofs.Distances.{Partly}
 use Rattle.book.proofs.play.measure.Given as given
 
 -- no state so far is marked
