@@ -6,7 +6,7 @@ use borrow.Author.Count.{below-more}
 use Rattle.book.specs.Frames.{tableOf}
 use Rattle.book.specs.Plays.{insideInto}
 use Rattle.book.proofs.Lists.{first-is, first-past}
-use Rattle.book.proofs.Frames.{choices-full}
+use Rattle.book.proofs.Places.{choices-full}
 use Rattle.book.proofs.play.first_into.Needs as need
 
 pub inside-into-requires : need.inside-into-requires

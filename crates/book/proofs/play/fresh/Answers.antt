@@ -2,7 +2,7 @@ use mathlib.Core.Path.{refl, _∙_}
 use mathlib.Core.Bool.{false}
 use native.Mathlib.Omega.{arith}
 use Rattle.std.proofs.shelf.Tests.{both-ways, ltb-true, ltb-false}
-use Rattle.book.proofs.Frames.{stateRow, choices-full}
+use Rattle.book.proofs.Places.{stateRow, choices-full}
 use Rattle.book.proofs.play.fresh.Needs as need
 
 pub returns-then-frame-s : need.returns-then-frame-s

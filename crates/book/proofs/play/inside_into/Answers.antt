@@ -8,7 +8,7 @@ use Rattle.components.specs.Inside.{inside}
 use Rattle.rules.specs.Choosing.{at}
 use Rattle.rules.specs.Play.{enters}
 use Rattle.book.specs.Frames.{tableOf}
-use Rattle.book.proofs.Frames.{branches-full, inside-here, run-enters, place-within}
+use Rattle.book.proofs.Places.{branches-full, inside-here, run-enters, place-within}
 use Rattle.book.proofs.play.inside_into.Needs as need
 
 pub enters-requires : need.enters-requires
