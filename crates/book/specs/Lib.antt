@@ -2,3 +2,4 @@ pub mod Rows
 pub mod Frames
 pub mod Books
 pub mod Inside
+pub mod Plays
