@@ -1,0 +1,21 @@
+// The engine's own model, and its decomposition into components and nodes.
+mod bits;
+mod copy;
+mod fault;
+mod load;
+mod model;
+mod notice;
+mod passes;
+mod reach;
+mod read;
+mod rewards;
+mod rows;
+
+pub use fault::LoadFault;
+pub use fault::LoadFaultFromAlloc;
+pub use fault::LoadFaultFromFault;
+pub use fault::LoadFaultFromRefused;
+pub use model::Model;
+pub use read::ModelSource;
+pub use rows::ChoiceRow;
+pub use rows::StateRow;
