@@ -141,27 +141,27 @@ passed T law words old new changed w d = record {
 -- Passes over flags are the passes of the definition
 
 module _ (T : Table) (law : Lawful T) where
-  -- a pass looks at the table's choices alone
+  -- what is reached, and a pass, depend on the table's choices alone
+  pub reach-same : (A B : Choices) → ((s c : ℕ) → Choice T s c → A s c ≡ B s c) → (x y : ℕ) → x < T .states → reach T A x y ≡ reach T B x y
+  reach-same A B e x y h =
+      same-test (reach T A x y) (reach T B x y)
+      (λ a. reach-all law h (more to (reach-sound T A x y a)))
+      (λ a. reach-all law h (more from (reach-sound T B x y a)))
+    where
+      to : ChoicesWithin T A B
+      to s c q a = sym (e s c q) ∙ a
+
+      from : ChoicesWithin T B A
+      from s c q a = e s c q ∙ a
+
   pass-same : (A B : Choices) → ((s c : ℕ) → Choice T s c → A s c ≡ B s c) → (s c : ℕ) → Choice T s c → pass T A s c ≡ pass T B s c
   unfolding pass
   pass-same A B e s c p =
       grid-at (T .states) (T .choices) (λ x y. A x y && every (T .branches x y) (λ b. reach T A (successor T x y b) x)) s c (p .state) (p .choice)
       ∙ ap₂ (λ (x y : Bool). x && y) (e s c p)
       (every-same (T .branches s c) (λ b. reach T A (successor T s c b) s) (λ b. reach T B (successor T s c b) s)
-      (λ b h. reach-same (successor T s c b) s (within law p h)))
+      (λ b h. reach-same A B e (successor T s c b) s (within law p h)))
       ∙ sym (grid-at (T .states) (T .choices) (λ x y. B x y && every (T .branches x y) (λ b. reach T B (successor T x y b) x)) s c (p .state) (p .choice))
-    where
-      to : ChoicesWithin T A B
-      to x y q a = sym (e x y q) ∙ a
-
-      from : ChoicesWithin T B A
-      from x y q a = e x y q ∙ a
-
-      reach-same : (x y : ℕ) → x < T .states → reach T A x y ≡ reach T B x y
-      reach-same x y h =
-          same-test (reach T A x y) (reach T B x y)
-          (λ a. reach-all law h (more to (reach-sound T A x y a)))
-          (λ a. reach-all law h (more from (reach-sound T B x y a)))
 
   pub turn-none : (flags : List Bool) → AllSet T flags → Flagged T flags (passes T 0)
   unfolding passes

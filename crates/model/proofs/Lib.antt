@@ -5,3 +5,5 @@ pub mod Extremes
 pub mod Loading
 pub mod Marked
 pub mod Drops
+pub mod Numbers
+pub mod Decomposing

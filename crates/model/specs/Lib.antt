@@ -5,3 +5,5 @@ pub mod Copy
 pub mod Loads
 pub mod Marking
 pub mod Dropping
+pub mod Numbered
+pub mod Decomposed

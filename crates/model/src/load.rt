@@ -1,3 +1,4 @@
+ghost use mathlib.Core.Path.{_≡_};
 ghost use Rattle.std.specs.Results.{Cases};
 ghost use Rattle.model.specs.Loads.{Loaded, RefusedLoad};
 use crate::copy::copy_states;
@@ -30,5 +31,19 @@ impl Model {
             choices,
             branches,
         })
+    }
+
+    // The least reward of its table.
+    pub fn least_reward(&self) -> i32
+        ensures { λ r. ⌜ r ≡ now (self .entry) .least ⌝ }
+    {
+        self.least
+    }
+
+    // The largest reward of its table.
+    pub fn largest_reward(&self) -> i32
+        ensures { λ r. ⌜ r ≡ now (self .entry) .largest ⌝ }
+    {
+        self.largest
     }
 }
