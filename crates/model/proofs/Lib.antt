@@ -1,9 +1,4 @@
 pub mod Flats
-pub mod Words
 pub mod Copies
 pub mod Extremes
 pub mod Loading
-pub mod Marked
-pub mod Drops
-pub mod Numbers
-pub mod Decomposing

@@ -1,9 +1,4 @@
 pub mod Flat
 pub mod Held
-pub mod Bits
 pub mod Copy
 pub mod Loads
-pub mod Marking
-pub mod Dropping
-pub mod Numbered
-pub mod Decomposed

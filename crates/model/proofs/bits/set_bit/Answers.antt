@@ -1,6 +1,0 @@
-use native.Mathlib.Omega.{arith}
-use Rattle.model.proofs.Words.{set-bit}
-use Rattle.model.proofs.bits.set_bit.Needs as need
-
-pub returns : need.returns
-returns c = set-bit (c .args .words .now) (c .args .row) (c .args .column) (omega arith) (omega arith)

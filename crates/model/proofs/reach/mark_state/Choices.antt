@@ -1,9 +1,0 @@
-use Rattle.model.specs.Bits.{Marks}
-use Rattle.model.specs.Marking.{flagAt}
-use Rattle.model.proofs.Marked.{byChoices}
-use Rattle.model.proofs.reach.mark_state.Given as given
-
--- the kept choices so far are marked
-abbrev pub Inv-loop-choice : given.InvT-loop-choice
-Inv-loop-choice g l =
-    Marks (l .entry .words) (l .words) (l .state) (byChoices (g .S·Source .table (l .source)) (flagAt (l .flags)) (l .state) (l .choice))
