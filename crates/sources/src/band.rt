@@ -39,14 +39,14 @@ impl Band {
         ensures test { λ r. ⌜ r ≡ bandWithin (now (self .entry) .half) (now (self .entry) .holding) (now (self .entry) .recentring) ⌝ }
         ensures lawful { λ r. ⌜ (r ≡ true → Lawful (bandTable (now (self .entry) .half) (now (self .entry) .holding) (now (self .entry) .recentring))) ⌝ }
     {
-        within(self.half, self.holding, self.recentring)
+        if self.half < 1 || self.half > MOST_HALF {
+            return false;
+        }
+        if self.holding > MOST_HOLDING || self.recentring > MOST_RECENTRING {
+            return false;
+        }
+        true
     }
-}
-
-fn within(half: u32, cost: u32, recentring: u32) -> bool
-    ensures { λ r. ⌜ r ≡ bandWithin half cost recentring ⌝ }
-{
-    1 <= half && half <= MOST_HALF && cost <= MOST_HOLDING && recentring <= MOST_RECENTRING
 }
 
 // How many branches holding at a state has: two at either end, else three.

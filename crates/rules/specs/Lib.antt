@@ -1,0 +1,14 @@
+pub mod Choosing
+pub mod Setting
+pub mod Book
+pub mod Refine
+pub mod Sweep
+pub mod Candidates
+pub mod Layers
+pub mod Play
+pub mod Fit
+pub mod Sound
+pub mod Runs
+pub mod Promises
+pub mod Meaning
+pub mod Worked
