@@ -8,7 +8,7 @@ use Rattle.std.proofs.shelf.Tests.{and-parts, and-from, cases-lt, cases-bool, b
 use Rattle.table.specs.Sums.{sumN}
 use Rattle.table.specs.Table.{Table, successor}
 use Rattle.table.specs.Limits.{Lawful}
-use Rattle.components.specs.Below.{every, count, grid}
+use Rattle.components.specs.Below.{every, count}
 use Rattle.components.specs.EndComponent.{Choices, Choice, Reaches, stays, steps, ChoicesWithin}
 use Rattle.components.specs.Inside.{reach, pass, passes, inside}
 use Rattle.components.proofs.Below.{every-at, every-from, sum-le, sum-lt, count-le, count-lt, count-most, grid-true, grid-from}

@@ -1,10 +1,9 @@
 -- What a decomposition starts from, and what it comes to.
-use mathlib.Core.Path.{_≡_, refl, sym, ap, _∙_, subst}
+use mathlib.Core.Path.{_≡_, sym, ap, _∙_, subst}
 use mathlib.Core.Bool.{Bool, true, false, _&&_}
 use mathlib.Core.List.{List, []}
-use Prim.Native.Nat.{ℕ, _+_, _*_, _<_, _≤_}
+use Prim.Native.Nat.{ℕ, _+_, _*_, _≤_}
 use native.Mathlib.Omega.{arith}
-use lib.Dec.{ltb}
 use lib.ListN.{length, getD, replicate}
 use Rattle.std.specs.Of.Vec.{vec-items, vec-len}
 use Rattle.std.specs.declared.option.Option.{Option}
@@ -12,9 +11,8 @@ use Rattle.std.proofs.shelf.Lists.{getD-replicate}
 use Rattle.std.proofs.shelf.Tests.{lt-ltb}
 use Rattle.table.specs.Table.{Table}
 use Rattle.table.specs.Limits.{Lawful}
-use Rattle.components.specs.Below.{count}
 use Rattle.components.specs.Inside.{inside}
-use Rattle.components.specs.Nodes.{isLowest, heads, nodes, components}
+use Rattle.components.specs.Nodes.{isLowest, nodes, components}
 use Rattle.components.proofs.Below.{count-most}
 use Rattle.components.proofs.Law.{every-lawful-table}
 use Rattle.decomposition.specs.Marking.{flagAt}

@@ -6,16 +6,16 @@ use mathlib.Core.Logic.{_⊎_, inl, inr, ⊎-elim}
 use Prim.Native.Nat.{ℕ, zero, suc, _+_, _*_, _<_, _≤_}
 use native.Mathlib.Omega.{arith}
 use native.Mathlib.Numerals.{add-one}
-use lib.ListN.{getD, set, length}
+use lib.ListN.{set, length}
 use Rattle.std.proofs.shelf.Lists.{getD-set-same, getD-set-other}
-use Rattle.std.proofs.shelf.Tests.{cases-bool, cases-eq, and-left, and-right, and-from, and-parts, both-ways}
+use Rattle.std.proofs.shelf.Tests.{cases-bool, cases-eq, and-left, and-right, and-from, both-ways}
 use Rattle.table.specs.Sums.{sumN}
 use Rattle.table.specs.Table.{Table, successor}
 use Rattle.table.specs.Limits.{Lawful}
-use Rattle.components.specs.Below.{every, grid}
+use Rattle.components.specs.Below.{every}
 use Rattle.components.specs.EndComponent.{Choices, Choice, ChoicesWithin}
 use Rattle.components.specs.Inside.{reach, pass, passes, inside}
-use Rattle.components.proofs.Below.{every-at, every-from, grid-at}
+use Rattle.components.proofs.Below.{every-at, grid-at}
 use Rattle.components.proofs.Reach.{within, more, reach-sound, reach-all}
 use Rattle.components.proofs.Reversible.{settled-inside}
 use Rattle.decomposition.specs.Bits.{bitAt}

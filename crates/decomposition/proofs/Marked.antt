@@ -10,15 +10,14 @@ use native.Mathlib.Numerals.{add-one}
 use lib.Dec.{eqb}
 use lib.ListN.{getD, length}
 use Rattle.std.proofs.shelf.Lists.{getD-past}
-use Rattle.std.proofs.shelf.Tests.{cases-eq, cases-lt, cases-order, eq-eqb, ne-eqb}
+use Rattle.std.proofs.shelf.Tests.{cases-eq, cases-lt, eq-eqb, ne-eqb}
 use Rattle.table.specs.Table.{Table, successor}
 use Rattle.components.specs.Below.{any, every}
 use Rattle.components.specs.EndComponent.{Choices}
 use Rattle.components.specs.Inside.{leads, via, reach}
 use Rattle.components.proofs.Below.{grid-at}
-use Rattle.components.specs.Below.{grid}
 use Rattle.decomposition.specs.Bits.{bitOf, bitAt, Marks}
-use Rattle.decomposition.specs.Marking.{flagAt, branchTo, oneStep, Shows, through, closure}
+use Rattle.decomposition.specs.Marking.{branchTo, oneStep, Shows, through, closure}
 
 pub any-more : (k : ℕ) (p : ℕ → Bool) → any (k + 1) p ≡ (any k p || p k)
 any-more k p = rw add-one refl
@@ -133,58 +132,6 @@ rows-all T A words l w s t h k = w .done s t (omega arith) h
 pub record Passing (n : ℕ) (old now : List ℕ) (middle i : ℕ) : Type 0 where
   pub done : (s t : ℕ) → s < n → t < 256 → s < i → bitAt now s t ≡ through (bitAt old) middle s t
   pub rest : (s t : ℕ) → s < n → t < 256 → i ≤ s → bitAt now s t ≡ bitAt old s t
-
-pub passing-none : (n : ℕ) (words : List ℕ) (middle : ℕ) → Passing n words words middle 0
-passing-none n words middle = record {
-  done = λ s t h k l. absurd (let z : s < 0 = l in omega arith);
-  rest = λ s t h k l. refl;
-}
-
--- the row of the middle state does not change
-again : (x y : Bool) → (x || (y && x)) ≡ x
-again true y = refl
-again false true = refl
-again false false = refl
-
-pub middle-row : (n : ℕ) (old now : List ℕ) (middle i : ℕ) → middle < n → Passing n old now middle i
-    → (t : ℕ) → t < 256 → bitAt now middle t ≡ bitAt old middle t
-middle-row n old now middle i h p t l =
-    ⊎-elim
-    (λ (k : middle < i). p .done middle t h l k ∙ again (bitAt old middle t) (bitAt old middle middle))
-    (λ (k : i ≤ middle). p .rest middle t h l k)
-    (cases-lt middle i)
-
-pub passing-set : (n : ℕ) (old now next : List ℕ) (middle i : ℕ) → n ≤ 256 → middle < n → i < n → bitAt now i middle ≡ true
-    → Passing n old now middle i → Marks now next i (bitAt now middle) → Passing n old next middle (i + 1)
-passing-set n old now next middle i big hm hi e p m = record {
-  done = λ s t h k l. ⊎-elim
-      (λ (q : s ≡ i).
-      rw q (m i t k
-      ∙ ap₂ (λ (x y : Bool). x || (y && bitAt now middle t)) (p .rest i t hi k (omega arith)) (eq-eqb i i refl)
-      ∙ ap₂ (λ (x y : Bool). bitAt old i t || (x && y)) (sym e ∙ p .rest i middle hi (omega arith) (omega arith)) (middle-row n old now middle i hm p t k)))
-      (λ (q : s ≡ i → ⊥). other s t h k q ∙ p .done s t h k (omega arith))
-      (cases-eq s i);
-  rest = λ s t h k l. other s t h k (λ q. omega arith) ∙ p .rest s t h k (omega arith);
-}
-  where
-    other : (s t : ℕ) → s < n → t < 256 → (s ≡ i → ⊥) → bitAt next s t ≡ bitAt now s t
-    other s t h k q = m s t k ∙ ap (λ (y : Bool). bitAt now s t || (y && bitAt now middle t)) (ne-eqb s i q) ∙ sym (or-false (bitAt now s t))
-
-pub passing-skip : (n : ℕ) (old now : List ℕ) (middle i : ℕ) → n ≤ 256 → middle < n → i < n → bitAt now i middle ≡ false
-    → Passing n old now middle i → Passing n old now middle (i + 1)
-passing-skip n old now middle i big hm hi e p = record {
-  done = λ s t h k l. ⊎-elim
-      (λ (q : s ≡ i).
-      rw q (p .rest i t hi k (omega arith)
-      ∙ or-false (bitAt old i t)
-      ∙ ap (λ (x : Bool). bitAt old i t || (x && bitAt old middle t)) (sym e ∙ p .rest i middle hi (omega arith) (omega arith))))
-      (λ (q : s ≡ i → ⊥). p .done s t h k (omega arith))
-      (cases-eq s i);
-  rest = λ s t h k l. p .rest s t h k (omega arith);
-}
-
-pub passing-all : (n : ℕ) (old now : List ℕ) (middle : ℕ) → n ≤ 256 → Passing n old now middle n → Shows n now (through (bitAt old) middle)
-passing-all n old now middle big p s t h k = p .done s t h (omega arith) h
 
 -- one more middle state
 pub closing-more : (n : ℕ) (words next : List ℕ) (r : ℕ → ℕ → Bool) (k : ℕ) → k < n → Shows n words (closure r k)

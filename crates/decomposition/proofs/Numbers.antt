@@ -3,19 +3,19 @@ use mathlib.Core.Path.{_≡_, refl, sym, ap, ap₂, _∙_, subst}
 use mathlib.Core.Bool.{Bool, true, false, cond, _||_}
 use mathlib.Core.List.{List, [], _∷_, _++_}
 use mathlib.Core.Logic.{⊎-elim}
-use Prim.Native.Nat.{ℕ, zero, suc, _+_, _*_, _<_, _≤_}
+use Prim.Native.Nat.{ℕ, zero, suc, _+_, _<_, _≤_}
 use native.Mathlib.Omega.{arith}
 use native.Mathlib.Numerals.{add-one}
 use lib.ListN.{length, getD}
 use Rattle.std.specs.declared.option.Option.{Option}
 use Rattle.std.specs.declared.option.Option.the-variants.{Some, None}
 use Rattle.std.proofs.shelf.Lists.{getD-append-left, getD-append-add, length-append}
-use Rattle.std.proofs.shelf.Tests.{cases-eq, cases-lt}
+use Rattle.std.proofs.shelf.Tests.{cases-eq}
 use Rattle.table.specs.Sums.{sumN}
 use Rattle.table.specs.Table.{Table}
 use Rattle.table.specs.Limits.{Lawful}
 use Rattle.components.specs.Below.{any, count, first}
-use Rattle.components.specs.EndComponent.{Choices, Choice, stays}
+use Rattle.components.specs.EndComponent.{stays}
 use Rattle.components.specs.Inside.{inside, reach}
 use Rattle.components.specs.Nodes.{inComponent, lowest, isLowest, heads, nodeOf, componentAt}
 use Rattle.components.proofs.Below.{count-most}

@@ -1,14 +1,12 @@
 -- The steps of a copy, and that the copied rows stand for the table.
-use mathlib.Core.Path.{_≡_, refl, sym, ap, ap₂, _∙_, subst, fun-ext}
-use mathlib.Core.Bool.{cond}
+use mathlib.Core.Path.{_≡_, sym, ap, ap₂, _∙_, subst}
 use mathlib.Core.List.{List, [], _∷_, _++_, map}
 use mathlib.Core.Logic.{⊎-elim}
-use Prim.Native.Nat.{ℕ, _+_, _*_, _<_, _≤_}
+use Prim.Native.Nat.{ℕ, _+_, _<_, _≤_}
 use native.Mathlib.Omega.{arith}
-use lib.Dec.{ltb}
 use lib.ListN.{length, getD}
 use Rattle.std.specs.Iters.{counting}
-use Rattle.std.proofs.shelf.Lists.{getD-past, getD-append-left, getD-append-add, length-append, append-assoc, append-nil}
+use Rattle.std.proofs.shelf.Lists.{getD-past, getD-append-left, getD-append-add, length-append, append-assoc}
 use Rattle.std.proofs.shelf.Counted.{map-counting-more, getD-map-counting, length-map-counting}
 use Rattle.std.proofs.shelf.Tests.{cases-eq, cases-lt}
 use Rattle.table.specs.Table.{Table, ZeroOutside}
@@ -31,9 +29,6 @@ extends-at {old = old} d i e h = ap (λ xs. getD xs i d) (e .is) ∙ getD-append
 
 extends-long : {X : Type 0} {old new : List X} → Extends old new → length old ≤ length new
 extends-long {old = old} e = let l = ap length (e .is) in let m = length-append old (e .more) in omega arith
-
-extends-same : {X : Type 0} (xs : List X) → Extends xs xs
-extends-same xs = record { more = []; is = sym (append-nil xs) }
 
 extends-more : {X : Type 0} {xs ys zs : List X} → Extends xs ys → Extends ys zs → Extends xs zs
 extends-more {xs = xs} e f = record {
@@ -58,15 +53,6 @@ choices-extend {T} {s} {k} {first} {newB = newB} e f h = record {
   at = λ c l.
       let m = h .within in
       subst (λ (row : ChoiceRow). HoldsChoice T s c row newB) (sym (extends-at noChoice (first + c) e (omega arith))) (choice-extends f (h .at c l));
-}
-
-pub choices-none : (T : Table) (s : ℕ) (cs : List ChoiceRow) (bs : List (ℕ × ℕ)) → ChoicesCopied T s 0 cs cs bs bs
-choices-none T s cs bs = record {
-  choices = extends-same cs;
-  branches = extends-same bs;
-  size = omega arith;
-  room = omega arith;
-  held = record { within = omega arith; at = λ c h. absurd (let z : c < 0 = h in omega arith) };
 }
 
 module _ (T : Table) (s k : ℕ) (row : ChoiceRow) (oldC newC nextC : List ChoiceRow) (oldB newB nextB : List (ℕ × ℕ)) where
@@ -117,14 +103,6 @@ module _ (T : Table) (s k : ℕ) (row : ChoiceRow) (oldC newC nextC : List Choic
             ∙ getD-append-add newB (map (T .branch s k) (counting 0 (T .branches s k))) b (0, 0)
             ∙ getD-map-counting (T .branch s k) 0 (T .branches s k) b b (0, 0) h (omega arith);
       })
-
-pub states-none : (T : Table) → StatesCopied T 0 [] [] []
-states-none T = record {
-  size = refl;
-  few-choices = omega arith;
-  few-branches = omega arith;
-  at = λ s h. absurd (let z : s < 0 = h in omega arith);
-}
 
 module _ (T : Table) (k : ℕ) (row : StateRow) (states next : List StateRow) (oldC newC : List ChoiceRow) (oldB newB : List (ℕ × ℕ)) where
   pub states-more : StatesCopied T k states oldC oldB → ChoicesCopied T k (T .choices k) oldC newC oldB newB → T .choices k ≤ 16

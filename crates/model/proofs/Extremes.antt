@@ -1,8 +1,7 @@
 -- The least and the largest reward so far.
-use mathlib.Core.Path.{_≡_, refl, sym, _∙_}
-use mathlib.Core.Bool.{cond}
+use mathlib.Core.Path.{_≡_, sym, _∙_}
 use mathlib.Core.Logic.{_⊎_, inl, inr, ⊎-elim}
-use Prim.Native.Nat.{ℕ, _+_, _<_, _≤_}
+use Prim.Native.Nat.{ℕ, _+_, _<_}
 use native.Mathlib.Omega.{arith}
 use lib.IntN.{ℤ}
 use lib.Signed.{_≤ℤ_, ltZ}
@@ -10,7 +9,6 @@ use Rattle.std.specs.Numbers.{minZ, maxZ}
 use Rattle.std.proofs.shelf.Signed.{ints}
 use Rattle.std.proofs.shelf.Tests.{cases-eq, cases-cond}
 use Rattle.table.specs.Table.{Table}
-use Rattle.model.specs.Loads.{LeastReward, LargestReward}
 
 -- a choice of the table earns r
 abbrev Earned : Table → ℤ → Type 0
@@ -22,15 +20,6 @@ pub record Among (T : Table) (k c : ℕ) (low high : ℤ) : Type 0 where
   pub high-earned : Earned T high
   pub bound : (s d : ℕ) → s < T .states → d < T .choices s → (s < k) ⊎ ((s ≡ k) × (d < c))
       → (low ≤ℤ T .reward s d) × (T .reward s d ≤ℤ high)
-
-pub among-none : (T : Table) (r : ℤ) → 0 < T .states → 0 < T .choices 0 → r ≡ T .reward 0 0 → Among T 0 0 r r
-among-none T r h k e = record {
-  low-earned = (0, 0, h, k, sym e);
-  high-earned = (0, 0, h, k, sym e);
-  bound = λ s d _ _ w. absurd (⊎-elim
-      (λ (x : s < 0). omega arith)
-      (λ (x : (s ≡ 0) × (d < 0)). let z : d < 0 = x .1 in omega arith) w);
-}
 
 at-most : (x y z : ℤ) → x ≤ℤ y → y ≤ℤ z → x ≤ℤ z
 at-most x y z h k = omega (arith, ints)
@@ -60,21 +49,3 @@ among-more {T} {k} {c} {low} {high} {low′} {high′} {r} a hk hc e el l₁ l�
     old s d hs hd w =
         let b = a .bound s d hs hd w in
         (at-most low′ low (T .reward s d) l₁ (b .0), at-most (T .reward s d) high high′ (b .1) h₁)
-
-pub among-next : {T : Table} {k : ℕ} {low high : ℤ} → Among T k (T .choices k) low high → Among T (k + 1) 0 low high
-among-next {T} {k} a = record {
-  low-earned = a .low-earned;
-  high-earned = a .high-earned;
-  bound = λ s d hs hd w. ⊎-elim
-      (λ (x : s < k + 1). ⊎-elim
-      (λ (q : s ≡ k). a .bound s d hs hd (inr (q, rw q at hd)))
-      (λ (q : s ≡ k → ⊥). a .bound s d hs hd (inl (omega arith)))
-      (cases-eq s k))
-      (λ (x : (s ≡ k + 1) × (d < 0)). absurd (let z : d < 0 = x .1 in omega arith)) w;
-}
-
-pub among-least : {T : Table} {low high : ℤ} → Among T (T .states) 0 low high → LeastReward T low
-among-least a = record { earned = a .low-earned; bound = λ s d hs hd. a .bound s d hs hd (inl hs) .0 }
-
-pub among-largest : {T : Table} {low high : ℤ} → Among T (T .states) 0 low high → LargestReward T high
-among-largest a = record { earned = a .high-earned; bound = λ s d hs hd. a .bound s d hs hd (inl hs) .1 }

@@ -1,14 +1,14 @@
 -- What flat lists hold, inside and outside.
-use mathlib.Core.Path.{_≡_, refl, sym, ap, _∙_}
-use mathlib.Core.Bool.{true, false, cond}
+use mathlib.Core.Path.{_≡_, ap, _∙_}
+use mathlib.Core.Bool.{cond}
 use mathlib.Core.List.{List}
 use Prim.Native.Nat.{ℕ, _+_, _<_, _≤_}
 use lib.Dec.{ltb}
 use lib.ListN.{length, getD}
 use Rattle.std.proofs.shelf.Lists.{getD-past}
 use Rattle.std.proofs.shelf.Tests.{cond-true, cond-false, lt-ltb, le-ltb}
-use Rattle.table.specs.Table.{Table, ZeroOutside}
-use Rattle.model.specs.Flat.{noState, noChoice, stateAt, choiceIn, branchIn, flatTable}
+use Rattle.table.specs.Table.{ZeroOutside}
+use Rattle.model.specs.Flat.{noState, noChoice, stateAt, choiceIn, flatTable}
 use Rattle.model.specs.declared.rows.StateRow.{StateRow}
 use Rattle.model.specs.declared.rows.ChoiceRow.{ChoiceRow}
 

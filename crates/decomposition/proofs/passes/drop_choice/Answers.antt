@@ -1,6 +1,5 @@
-use mathlib.Core.Path.{_≡_, sym, _∙_}
+use mathlib.Core.Path.{sym, _∙_}
 use native.Mathlib.Omega.{arith}
-use Rattle.table.specs.Table.{Table}
 use Rattle.decomposition.proofs.Drops.{choice-absent, choice-stays, choice-goes}
 use Rattle.decomposition.proofs.passes.drop_choice.Needs as need
 

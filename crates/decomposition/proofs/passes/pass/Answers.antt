@@ -1,4 +1,3 @@
-use native.Mathlib.Omega.{arith}
 use Rattle.decomposition.proofs.Drops.{passed}
 use Rattle.decomposition.proofs.passes.pass.Needs as need
 

@@ -1,5 +1,3 @@
-use mathlib.Core.Path.{_≡_}
-use native.Mathlib.Omega.{arith}
 use Rattle.table.specs.Table.{Table}
 use Rattle.decomposition.specs.Marking.{flagAt}
 use Rattle.decomposition.proofs.Marked.{reach-shown}

@@ -1,5 +1,4 @@
-use mathlib.Core.Path.{_≡_, sym, _∙_}
-use Prim.Native.Nat.{ℕ}
+use mathlib.Core.Path.{_∙_}
 use native.Mathlib.Omega.{arith}
 use mir.Syntax.{w32}
 use mir.Val.{SFits}
@@ -7,7 +6,7 @@ use borrow.Author.Needs.{needs}
 use Rattle.std.proofs.shelf.Signed.{toZ-ofZ}
 use Rattle.std.specs.Of.Vec.{vec-items}
 use Rattle.table.specs.Table.{Table}
-use Rattle.model.proofs.Copies.{choices-none, choices-more}
+use Rattle.model.proofs.Copies.{choices-more}
 use Rattle.model.proofs.copy.copy_choices.Needs as need
 
 pub loop-choice-again : need.loop-choice-again

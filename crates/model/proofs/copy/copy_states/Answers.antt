@@ -1,10 +1,8 @@
-use mathlib.Core.Path.{_≡_, sym, _∙_}
-use Prim.Native.Nat.{ℕ}
+use mathlib.Core.Path.{_≡_, _∙_}
 use native.Mathlib.Omega.{arith}
-use borrow.Author.Needs.{needs}
 use Rattle.std.specs.Of.Vec.{vec-items}
 use Rattle.table.specs.Table.{Table}
-use Rattle.model.proofs.Copies.{states-none, states-more}
+use Rattle.model.proofs.Copies.{states-more}
 use Rattle.model.proofs.copy.copy_states.Needs as need
 
 pub loop-state-again : need.loop-state-again

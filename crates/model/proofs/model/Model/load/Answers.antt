@@ -1,17 +1,14 @@
-use mathlib.Core.Path.{_≡_, refl, sym, ap, _∙_}
+use mathlib.Core.Path.{sym, ap, _∙_}
 use Prim.Native.Nat.{ℕ}
 use mir.Syntax.{w32}
 use mir.Val.{SFits}
-use native.Mathlib.Omega.{arith}
 use borrow.Author.Needs.{needs}
 use Rattle.std.specs.Of.Vec.{vec-items}
 use Rattle.std.specs.declared.result.Result.the-variants.{Err}
 use Rattle.std.proofs.shelf.Results.{err-from-errBy}
 use Rattle.std.proofs.shelf.Signed.{toZ-ofZ}
 use Rattle.table.specs.Table.{Table}
-use Rattle.table.specs.Limits.{Lawful}
 use Rattle.table.specs.Walk.{faultOf}
-use Rattle.table.specs.Law.{verdict}
 use Rattle.model.specs.Flat.{flatTable}
 use Rattle.model.proofs.Loading.{verdict-ok, want-of-memory}
 use Rattle.model.proofs.Copies.{copied-table}
