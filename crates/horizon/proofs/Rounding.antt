@@ -6,8 +6,10 @@ use native.Mathlib.Omega.{arith}
 use native.Mathlib.Nat.{mul-div-le, lt-div-mul-add, mul-suc, mul-comm, mul-one}
 use lib.IntN.{ℤ, pos, negsuc, negℤ, _+ℤ_, _*ℤ_}
 use lib.Signed.{_≤ℤ_, _<ℤ_}
-use Rattle.horizon.specs.Means.{roundDown, roundUp}
-use Rattle.horizon.proofs.Ring.{lin, over, over-neg, mono, cases-Z}
+use Rattle.std.proofs.shelf.Bits.{mul-le}
+use Rattle.std.proofs.shelf.Tests.{cases-eq}
+use Rattle.horizon.specs.Means.{roundDown, roundUp, Within}
+use Rattle.horizon.proofs.Ring.{lin, over, over-neg, mono, cancel, cases-Z}
 
 rest : (a W : ℕ) → 1 ≤ W → a < W * (a / W) + W
 rest a W h = let e = lt-div-mul-add {a = a} {b = W} h in let c = mul-comm (a / W) W in omega arith
@@ -91,3 +93,20 @@ down-mono a b W h l = let e = down-below a W h in down-most b (roundDown a W) W 
 
 pub up-mono : (a b : ℤ) (W : ℕ) → 1 ≤ W → a ≤ℤ b → roundUp a W ≤ℤ roundUp b W
 up-mono a b W h l = let e = up-above b W h in up-least a (roundUp b W) W h (omega (arith, lin))
+
+-- what is between -B and B stays there
+pub down-within : Within roundDown
+down-within z W B low high =
+    ⊎-elim
+    (λ (e : W ≡ 0). let n = down-none z W e in (omega (arith, lin), omega (arith, lin)))
+    (λ (e : W ≡ 0 → ⊥).
+    let h : 1 ≤ W = omega arith in
+    let o = over-neg W (pos B) in
+    let m : 1 * B ≤ W * B = mul-le 1 B W B h (omega arith) in
+    let b = down-below z W h in
+    (down-most z (negℤ (pos B)) W h (omega (arith, lin)), cancel W (roundDown z W) (pos B) h (omega (arith, lin))))
+    (cases-eq W 0)
+
+pub up-within : Within roundUp
+unfolding roundUp
+up-within z W B low high = let d = down-within (negℤ z) W B (omega (arith, lin)) (omega (arith, lin)) in (omega (arith, lin), omega (arith, lin))

@@ -48,3 +48,7 @@ abbrev pub Near : Rounding → Type 0
 Near rounds = EachChoice (λ T s c. (f : ℕ → ℤ)
     → (branchSumZ T s c f <ℤ ((pos (T .denominator) *ℤ mean rounds T s c f) +ℤ pos (T .denominator)))
     × ((pos (T .denominator) *ℤ mean rounds T s c f) <ℤ (branchSumZ T s c f +ℤ pos (T .denominator))))
+
+-- a number between -B and B is rounded to one between them, whatever the denominator
+abbrev pub Within : Rounding → Type 0
+Within rounds = (z : ℤ) (W B : ℕ) → negℤ (pos B) ≤ℤ z → z ≤ℤ pos B → (negℤ (pos B) ≤ℤ rounds z W) × (rounds z W ≤ℤ pos B)

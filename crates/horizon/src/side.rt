@@ -2,7 +2,7 @@ ghost use mathlib.Core.Path.{_≡_};
 ghost use Prim.Native.Nat.{ℕ};
 ghost use lib.IntN.{ℤ};
 ghost use lib.Signed.{_≤ℤ_};
-ghost use Rattle.horizon.specs.Means.{roundDown, roundUp, OnSide, KeepsEqual, Monotone, Near};
+ghost use Rattle.horizon.specs.Means.{roundDown, roundUp, OnSide, KeepsEqual, Monotone, Near, Within};
 
 // One of the two sides of a mean. Work on means is written once, over a side.
 pub trait Side {
@@ -23,6 +23,9 @@ pub trait Side {
 
     // the mean is less than one off
     law near: { Near rounds };
+
+    // a number is not rounded away from 0 past what bounds it
+    law within: { Within rounds };
 
     // The total divided by the denominator, rounded to this side; 0 where the denominator is 0.
     fn round(total: i64, denominator: u32) -> i64

@@ -15,13 +15,9 @@ use Rattle.components.specs.Nodes.{nodes, nodeOf, componentAt}
 use Rattle.rules.specs.Choosing.{eqZ, atZ}
 use Rattle.rules.specs.Setting.{Setting}
 use Rattle.rules.specs.Book.{Book, exitAt}
+pub use Rattle.rules.specs.declared.exit.Candidate.{Candidate}
 use Rattle.rules.specs.declared.exit.Exit.{Exit}
 use Rattle.rules.specs.declared.exit.Exit.the-variants.{Stay, Leave}
-
--- a way to go on from a node, and its number
-pub record Candidate : Type 0 where
-  pub value : ℤ
-  pub exit : Exit
 
 -- one more candidate: it is the best so far if it is the first, or larger than the best before it
 abbrev pub better : Option Candidate → Candidate → Option Candidate

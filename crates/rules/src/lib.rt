@@ -2,6 +2,7 @@
 // Four functions below stand for one theorem each: the contract is the theorem, and the answer is the theorem's number.
 mod exit;
 
+pub use exit::Candidate;
 pub use exit::Exit;
 ghost use mathlib.Core.Path.{_≡_};
 ghost use Rattle.rules.specs.Setting.{scaleInUse, capInUse};

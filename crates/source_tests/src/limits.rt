@@ -3,6 +3,7 @@ use crate::found::choice;
 use crate::found::in_list;
 use crate::found::state;
 use std::test::*;
+use table::Notice;
 use table::NoticeDebug;
 use table::NoticePartialEq;
 
@@ -113,72 +114,50 @@ fn number_of_branches() -> Result<(), Fail> {
     )
 }
 
-#[test]
-fn a_branch() -> Result<(), Fail> {
+// The table of the tests on branches, with these branches.
+fn with_branches(branches: &[(u32, u32)]) -> Notice {
     let states = [state(0, 1), state(1, 2)];
     let choices = [choice(5, 0, 2), choice(-7, 2, 1), choice(0, 3, 2)];
+    in_list(4, &states, &choices, branches)
+}
+
+#[test]
+fn a_branch() -> Result<(), Fail> {
     check_eq(
-        in_list(
-            4,
-            &states,
-            &choices,
-            &[(0, 1), (1, 3), (1, 4), (0, 2), (1, 2)],
-        ),
+        with_branches(&[(0, 1), (1, 3), (1, 4), (0, 2), (1, 2)]),
         at(0, 0, 0, 0),
     )?;
     check_eq(
-        in_list(
-            4,
-            &states,
-            &choices,
-            &[(1, 3), (0, 1), (1, 4), (1, 2), (0, 2)],
-        ),
+        with_branches(&[(1, 3), (0, 1), (1, 4), (1, 2), (0, 2)]),
         at(0, 0, 0, 0),
     )?;
     check_eq(
-        in_list(
-            4,
-            &states,
-            &choices,
-            &[(0, 1), (1, 3), (1, 4), (0, 2), (2, 2)],
-        ),
+        with_branches(&[(0, 1), (1, 3), (1, 4), (0, 2), (2, 2)]),
         at(16, 1, 1, 1),
     )?;
     check_eq(
-        in_list(
-            4,
-            &states,
-            &choices,
-            &[(0, 1), (1, 3), (1, 4), (0, 0), (1, 4)],
-        ),
+        with_branches(&[(0, 1), (1, 3), (1, 4), (0, 0), (1, 4)]),
         at(17, 1, 1, 0),
     )?;
     check_eq(
-        in_list(
-            4,
-            &states,
-            &choices,
-            &[(0, 1), (1, 3), (1, 4), (1, 2), (1, 2)],
-        ),
+        with_branches(&[(0, 1), (1, 3), (1, 4), (1, 2), (1, 2)]),
         at(18, 1, 1, 1),
-    )?;
+    )
+}
+
+#[test]
+fn sum_of_weights() -> Result<(), Fail> {
     check_eq(
-        in_list(
-            4,
-            &states,
-            &choices,
-            &[(0, 1), (1, 3), (1, 4), (0, 1), (1, 2)],
-        ),
+        with_branches(&[(0, 1), (1, 3), (1, 4), (0, 1), (1, 2)]),
         at(19, 1, 1, 0),
     )?;
     check_eq(
-        in_list(
-            4,
-            &states,
-            &choices,
-            &[(0, 1), (1, 3), (1, 4), (0, 3), (1, 2)],
-        ),
+        with_branches(&[(0, 1), (1, 3), (1, 4), (0, 3), (1, 2)]),
         at(19, 1, 1, 0),
+    )?;
+    check_eq(
+        with_branches(&[(0, 1), (1, 3), (1, 3), (0, 2), (1, 2)]),
+        at(19, 1, 0, 0),
     )
 }
 

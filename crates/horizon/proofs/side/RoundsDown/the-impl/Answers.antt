@@ -3,7 +3,7 @@ use Rattle.horizon.specs.Sums.{branchSumZ}
 use Rattle.horizon.specs.Means.{roundDown}
 use Rattle.horizon.proofs.Ring.{lin}
 use Rattle.horizon.proofs.Means.{keeps-equal, monotone}
-use Rattle.horizon.proofs.Rounding.{down-below, down-next, down-exact, down-mono}
+use Rattle.horizon.proofs.Rounding.{down-below, down-next, down-exact, down-mono, down-within}
 use Rattle.horizon.proofs.side.RoundsDown.the-impl.Needs as need
 
 pub side-law : need.side-law
@@ -23,3 +23,6 @@ near-law T law s c h k f =
     let b = down-next z W (law .denominator .0) in
     let w = law .denominator .0 in
     (omega (arith, lin), omega (arith, lin))
+
+pub within-law : need.within-law
+within-law = down-within

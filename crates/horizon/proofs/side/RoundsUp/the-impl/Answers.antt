@@ -3,7 +3,7 @@ use Rattle.horizon.specs.Sums.{branchSumZ}
 use Rattle.horizon.specs.Means.{roundUp}
 use Rattle.horizon.proofs.Ring.{lin}
 use Rattle.horizon.proofs.Means.{keeps-equal, monotone}
-use Rattle.horizon.proofs.Rounding.{up-above, up-next, up-exact, up-mono}
+use Rattle.horizon.proofs.Rounding.{up-above, up-next, up-exact, up-mono, up-within}
 use Rattle.horizon.proofs.side.RoundsUp.the-impl.Needs as need
 
 pub side-law : need.side-law
@@ -23,3 +23,6 @@ near-law T law s c h k f =
     let b = up-next z W (law .denominator .0) in
     let w = law .denominator .0 in
     (omega (arith, lin), omega (arith, lin))
+
+pub within-law : need.within-law
+within-law = up-within

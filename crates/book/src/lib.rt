@@ -1,0 +1,8 @@
+// The engine's plain inner numbers and the code that works on them.
+mod best;
+mod book;
+mod frame;
+mod gain;
+mod mean;
+
+pub use book::Book;
