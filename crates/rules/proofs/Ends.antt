@@ -5,6 +5,7 @@ use mathlib.Core.Logic.{inl, inr}
 use Prim.Native.Nat.{ℕ, zero, suc, _<_}
 use native.Mathlib.Omega.{arith}
 use Rattle.std.proofs.shelf.Tests.{both-ways, and-parts, and-from}
+use Rattle.horizon.proofs.Ring.{lin}
 use Rattle.components.specs.Nodes.{nodes}
 use Rattle.components.proofs.Below.{every-at, every-from}
 use Rattle.rules.specs.Setting.{Setting}
@@ -24,7 +25,7 @@ module _ (M : Setting) (k width : ℕ) where
     most = omega arith;
     wide = λ j l w. let z : ⊥ = omega arith in z;
     free = λ j l w. let z : ⊥ = omega arith in z;
-    early = λ l. inl (e l);
+    early = λ l. inl (let f = e l in omega (arith, lin));
   }
 
   held-made : (n : ℕ) (B : Book) → narrow width k B ≡ false → held M (at (B .vector)) k ≡ true
@@ -39,7 +40,7 @@ module _ (M : Setting) (k width : ℕ) where
   }
     where
       wide : (j : ℕ) → j < 1 → NarrowAfter M width k j B → ⊥
-      wide zero l w = both-ways (narrow width k B) f w
+      wide zero l w = let z : ⊥ = omega (arith, lin) in z
       wide (suc j) l w = let z : ⊥ = omega arith in z
 
   more-made : (n : ℕ) (B : Book) (r : Refined) → narrow width k B ≡ false → held M (at (B .vector)) k ≡ false
@@ -54,7 +55,7 @@ module _ (M : Setting) (k width : ℕ) where
   }
     where
       wide : (j : ℕ) → j < suc (r .made) → NarrowAfter M width k j B → ⊥
-      wide zero l x = both-ways (narrow width k B) f x
+      wide zero l x = let z : ⊥ = omega (arith, lin) in z
       wide (suc j) l x = w .wide j (omega arith) x
 
       free : (j : ℕ) → suc j < suc (r .made) → HeldAfter M k j B → ⊥

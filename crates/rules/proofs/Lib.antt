@@ -24,5 +24,6 @@ pub mod Lower
 pub mod Promises
 pub mod Ends
 pub mod Meaning
+pub mod Models
 pub mod Loops
 pub mod Ranges

@@ -16,7 +16,7 @@ use Rattle.components.specs.Nodes.{nodes, nodeOf, inComponent, statesOf}
 use Rattle.rules.specs.Choosing.{largest, smallest, at, atZ}
 use Rattle.rules.specs.Setting.{Setting, leastReward, largestReward}
 use Rattle.rules.specs.Book.{Book, exitAt}
-use Rattle.rules.specs.Refine.{worth, best, attains, halfway, shifted, held, step, narrow, Refined, refine}
+use Rattle.rules.specs.Refine.{worth, best, attains, halfway, shifted, held, step, Refined, refine}
 use Rattle.rules.specs.Sweep.{Candidate, bestOf, update, sweep, Swept, sweeps}
 use Rattle.rules.specs.Candidates.{CandidateOf, FirstBest}
 use Rattle.rules.specs.Play.{distance, toward}
@@ -58,12 +58,12 @@ unfoldable pub stepped : Setting → ℕ → ℕ → Book → Book
 stepped M k zero B = B
 stepped M k (suc j) B = stepped M k j (step M k B)
 
--- the step after j steps is held, and the book after j steps is narrow
+-- the step after j steps is held, and after j steps hi - lo is at most the width
 abbrev pub HeldAfter : Setting → ℕ → ℕ → Book → Type 0
 HeldAfter M k j B = held M (at (stepped M k j B .vector)) k ≡ true
 
 abbrev pub NarrowAfter : Setting → ℕ → ℕ → ℕ → Book → Type 0
-NarrowAfter M width k j B = narrow width k (stepped M k j B) ≡ true
+NarrowAfter M width k j B = (atZ (stepped M k j B .hi) k -ℤ atZ (stepped M k j B .lo) k) ≤ℤ pos width
 
 -- r is what a refine of at most n steps leaves: it makes no step from a narrow book and none after a held one,
 -- and it ends early for one of these alone

@@ -1,15 +1,15 @@
 -- Worked models, whose results follow from the rules by computation. Branches are written (successor, weight).
 use mathlib.Core.Path.{_≡_}
-use mathlib.Core.Bool.{true, false}
 use mathlib.Core.List.{List, [], _∷_, map}
 use Prim.Native.Nat.{ℕ}
 use lib.IntN.{ℤ, pos, negℤ}
 use lib.ListN.{getD, length}
 use Rattle.std.specs.Iters.{counting}
-use Rattle.std.specs.declared.option.Option.the-variants.{None}
+use Rattle.std.specs.shelf.Lists.{All}
 use Rattle.table.specs.Table.{Table}
-use Rattle.table.specs.Walk.{faultOf}
-use Rattle.components.specs.Nodes.{components, inComponent}
+use Rattle.table.specs.Limits.{Lawful}
+use Rattle.components.specs.Nodes.{components}
+use Rattle.components.specs.Law.{Lone}
 use Rattle.rules.specs.Setting.{settingOf}
 use Rattle.rules.specs.Book.{Book, start}
 use Rattle.rules.specs.Refine.{Refined, refine}
@@ -82,16 +82,17 @@ abbrev pub plays : Table → Book → List ℕ
 plays T B = map (play T B) (counting 0 (T .states))
 
 pub record WorkedModels : Type 0 where
-  -- each table is lawful: no limit is broken
-  pub lawful : map faultOf workedModels ≡ None ∷ None ∷ None ∷ None ∷ None ∷ None ∷ None ∷ []
+  -- each table is lawful
+  pub lawful : All Lawful workedModels
   -- A: L = U = 3 × F at the start
   pub a : bounds modelA (opened modelA) 0 ≡ (pos 3145728, pos 3145728)
   -- B: one step leaves lo 0 and hi 10 × F; a first refine of at most 10 steps makes 2, and both are 5 × F
   pub b-one : (firstRefine modelB 1 0 .book .lo ≡ pos 0 ∷ []) × (firstRefine modelB 1 0 .book .hi ≡ pos 10485760 ∷ [])
   pub b-made : firstRefine modelB 10 0 .made ≡ 2
   pub b-ten : (firstRefine modelB 10 0 .book .lo ≡ pos 5242880 ∷ []) × (firstRefine modelB 10 0 .book .hi ≡ pos 5242880 ∷ [])
-  -- C: 2 components, refined to 8 × F and -4 × F; of 10 sweeps asked 4 are made, and L = U = -F at the lone state
-  pub c-components : components modelC ≡ 2
+  -- C: 3 states and 2 components, each refined by one step, to 8 × F and -4 × F; of 10 sweeps asked 4 are made, and L = U = -F at the lone state
+  pub c-size : (modelC .states ≡ 3) × (components modelC ≡ 2)
+  pub c-steps : (firstRefine modelC 1 0 .made ≡ 1) × (refine (settingOf modelC) 1 1 0 (firstRefine modelC 1 0 .book) .made ≡ 1)
   pub c-refined : (bothRefined modelC .lo ≡ pos 8388608 ∷ negℤ (pos 4194304) ∷ []) × (bothRefined modelC .hi ≡ pos 8388608 ∷ negℤ (pos 4194304) ∷ [])
   pub c-made : sweptAfter modelC 10 .made ≡ 4
   pub c : bounds modelC (sweptAfter modelC 10 .book) 0 ≡ (negℤ (pos 1048576), negℤ (pos 1048576))
@@ -102,5 +103,5 @@ pub record WorkedModels : Type 0 where
   pub e-made : sweptAfter modelE 1000 .made ≡ 25
   pub e : bounds modelE (sweptAfter modelE 1000 .book) 0 ≡ (pos 6291455, pos 6291456)
   pub e-plays : plays modelE (sweptAfter modelE 1000 .book) ≡ 0 ∷ 1 ∷ 0 ∷ []
-  -- F: state 0 is lone, state 1 is in a component
-  pub f : (inComponent modelF 0 ≡ false) × (inComponent modelF 1 ≡ true)
+  -- F: state 0 is lone
+  pub f : Lone modelF 0

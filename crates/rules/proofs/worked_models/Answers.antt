@@ -11,6 +11,7 @@ use Rattle.rules.specs.Sweep.{staying, bestOf, update, updates, sweep, still, 
 use Rattle.rules.specs.Layers.{layer, level}
 use Rattle.rules.specs.Play.{distance, toward, play}
 use Rattle.rules.specs.Worked.{modelA, modelB, modelC, modelD, modelE, modelF, sweptAfter}
+use Rattle.rules.proofs.Models.{models-lawful, lone-state}
 use Rattle.rules.proofs.worked_models.Needs as need
 
 pub returns : need.returns
@@ -18,12 +19,13 @@ unfolding modelA modelB modelC modelD modelE modelF sweptAfter first grid via re
 returns c = record {
   count = refl;
   results = record {
-    lawful = refl;
+    lawful = models-lawful;
     a = refl;
     b-one = (refl, refl);
     b-made = refl;
     b-ten = (refl, refl);
-    c-components = refl;
+    c-size = (refl, refl);
+    c-steps = (refl, refl);
     c-refined = (refl, refl);
     c-made = refl;
     c = refl;
@@ -32,6 +34,6 @@ returns c = record {
     e-made = refl;
     e = refl;
     e-plays = refl;
-    f = (refl, refl);
+    f = lone-state;
   };
 }
