@@ -1,7 +1,9 @@
 // One trading day of one programme, from its table to its bounds, every step printed.
+mod apart;
 mod export;
 mod show;
 
+use apart::print_parts;
 use show::answer;
 use show::print_table;
 use sources::Band;
@@ -21,7 +23,12 @@ fn main(rt: LibcRuntime) -> io::Result<()> {
     answer(&rt, check(&band))?;
     println!(
         rt,
-        "2. The same band as the day's export, a caller's lists."
+        "2. The engine's own copy of it, taken apart into components and nodes."
+    )?;
+    print_parts(&rt, &band)?;
+    println!(
+        rt,
+        "3. The same band as the day's export, a caller's lists."
     )?;
     let list = List::new(4, &export::STATES, &export::CHOICES, &export::BRANCHES);
     print_table(&rt, &list)?;
