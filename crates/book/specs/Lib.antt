@@ -1,3 +1,4 @@
 pub mod Rows
 pub mod Frames
 pub mod Books
+pub mod Sweeps

@@ -2,6 +2,8 @@
 mod best;
 mod book;
 mod frame;
+mod leaving;
 mod mean;
+mod sweep;
 
 pub use book::Book;
