@@ -1,15 +1,15 @@
 -- The rows that the code reads are those of the table.
 use mathlib.Core.Path.{_≡_, refl, sym, ap, subst, _∙_}
-use mathlib.Core.Bool.{true, false, cond}
+use mathlib.Core.Bool.{false}
 use mathlib.Core.List.{List}
 use Prim.Native.Nat.{ℕ, _+_, _<_, _≤_, _^_}
 use native.Mathlib.Omega.{arith}
-use lib.Dec.{leb, ltb}
+use lib.Dec.{leb}
 use lib.IntN.{ℤ, pos, _*ℤ_}
 use lib.ListN.{length, getD}
 use Rattle.std.proofs.shelf.Tests.{cond-both, cond-below, leb-true}
 use Rattle.table.specs.Sums.{sumN}
-use Rattle.table.specs.Table.{Table, successor, weight}
+use Rattle.table.specs.Table.{successor, weight}
 use Rattle.sources.specs.Rows.{run, noState, noChoice, stateAt, choiceAt}
 use Rattle.sources.specs.declared.list.StateRow.{StateRow}
 use Rattle.sources.specs.declared.list.ChoiceRow.{ChoiceRow}

@@ -1,10 +1,10 @@
 -- Updates of nodes and sweeps, one after the other.
-use mathlib.Core.Path.{_≡_, refl, sym, ap, subst, _∙_}
-use mathlib.Core.Bool.{Bool, true, false, cond, _&&_}
+use mathlib.Core.Path.{_≡_, refl, sym, ap, _∙_}
+use mathlib.Core.Bool.{Bool, true, false, _&&_}
 use mathlib.Core.List.{List}
-use Prim.Native.Nat.{ℕ, zero, suc, _+_, _<_, _≤_}
+use Prim.Native.Nat.{ℕ, zero, suc, _+_, _≤_}
 use native.Mathlib.Omega.{arith}
-use lib.IntN.{ℤ, pos}
+use lib.IntN.{ℤ}
 use lib.ListN.{length, set}
 use Rattle.std.specs.Changed.{refilled}
 use Rattle.std.specs.Of.Vec.{vec-items, vec-len}
@@ -16,7 +16,7 @@ use Rattle.horizon.proofs.Ring.{lin}
 use Rattle.components.specs.Below.{every}
 use Rattle.components.specs.Nodes.{nodes}
 use Rattle.rules.specs.Choosing.{eqZ, atZ}
-use Rattle.rules.specs.Setting.{Setting, settingOf, leastReward, largestReward, bottom, top}
+use Rattle.rules.specs.Setting.{Setting, settingOf, leastReward, largestReward}
 use Rattle.rules.specs.Book.{Book}
 use Rattle.rules.specs.Sweep.{update, updates, sweep, still, sweeps}
 use Rattle.rules.specs.Fit.{Within}

@@ -1,13 +1,11 @@
 use mathlib.Core.Path.{_≡_, sym, ap, _∙_}
-use Prim.Native.Nat.{ℕ, _+_, _<_, _≤_}
+use Prim.Native.Nat.{ℕ, _<_}
 use native.Mathlib.Omega.{arith}
 use borrow.Author.Needs.{needs}
 use lib.IntN.{ℤ}
-use lib.ListN.{length}
 use mir.Syntax.{w64}
 use mir.Val.{SFits, toZ, ofZ}
 use Rattle.std.proofs.shelf.Signed.{ints, toZ-ofZ}
-use Rattle.table.specs.Table.{Table}
 use Rattle.horizon.specs.Sums.{branchSumZ}
 use Rattle.components.specs.Nodes.{nodeOf}
 use Rattle.rules.specs.Choosing.{atZ}
@@ -16,9 +14,8 @@ use Rattle.rules.specs.Candidates.{meanOf}
 use Rattle.rules.specs.Sweep.{overChoices}
 use Rattle.book.specs.declared.frame.Frame.{Frame}
 use Rattle.book.specs.Frames.{tableOf}
-use Rattle.book.specs.Rows.{placeAt}
 use Rattle.book.proofs.Exits.{inside-more, leaving-more}
-use Rattle.book.proofs.FrameRows.{stateRow, choiceRow, choices-here, branches-here, inside-here, place-here, weights-here, sum-here}
+use Rattle.book.proofs.FrameRows.{choices-here, branches-here, inside-here, place-here, weights-here, sum-here}
 use Rattle.book.proofs.leaving.best_choice.Needs as need
 use Rattle.book.proofs.leaving.best_choice.Needs.{then-not-frame-place, else-not-frame-place}
 

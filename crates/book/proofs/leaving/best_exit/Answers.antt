@@ -1,9 +1,8 @@
-use mathlib.Core.Path.{_≡_, sym, ap, _∙_}
-use Prim.Native.Nat.{ℕ, _+_, _-_, _<_, _≤_}
+use mathlib.Core.Path.{_≡_, ap, _∙_}
+use Prim.Native.Nat.{ℕ, _+_, _-_, _≤_}
 use native.Mathlib.Omega.{arith}
-use borrow.Author.Needs.{needs}
 use lib.IntN.{ℤ}
-use lib.ListN.{length, getD}
+use lib.ListN.{getD}
 use Rattle.std.specs.declared.option.Option.{Option}
 use Rattle.rules.specs.Setting.{settingOf}
 use Rattle.rules.specs.Candidates.{meanOf}
@@ -11,7 +10,7 @@ use Rattle.rules.specs.Sweep.{staying, bestOf}
 use Rattle.rules.specs.declared.exit.Candidate.{Candidate}
 use Rattle.book.specs.declared.frame.Frame.{Frame}
 use Rattle.book.specs.Frames.{tableOf, startAt}
-use Rattle.book.proofs.Exits.{overState, overMembers, member-state, member-more, member-all}
+use Rattle.book.proofs.Exits.{overState, member-state, member-more, member-all}
 use Rattle.book.proofs.leaving.best_exit.Needs as need
 
 pub best-choice-best-requires : need.best-choice-best-requires

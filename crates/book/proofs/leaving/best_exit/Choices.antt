@@ -1,5 +1,4 @@
 use mathlib.Core.Path.{_≡_}
-use Prim.Native.Nat.{_≤_}
 use Rattle.rules.specs.Setting.{settingOf}
 use Rattle.rules.specs.Candidates.{meanOf}
 use Rattle.rules.specs.Sweep.{staying}
