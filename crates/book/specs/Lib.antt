@@ -1,4 +1,5 @@
 pub mod Rows
 pub mod Frames
 pub mod Books
+pub mod Inside
 pub mod Sweeps

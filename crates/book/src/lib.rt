@@ -2,6 +2,7 @@
 mod best;
 mod book;
 mod frame;
+mod gain;
 mod leaving;
 mod mean;
 mod sweep;

@@ -5,6 +5,7 @@ ghost use lib.ListN.{length, getD};
 ghost use lib.Signed.{_≤ℤ_};
 ghost use Rattle.table.specs.Sums.{sumN};
 ghost use Rattle.book.specs.Rows.{placeAt, weightAt, runSum};
+use horizon::Side;
 
 // A weight times a value.
 fn share(weight: u32, value: i64) -> i64
@@ -35,4 +36,26 @@ pub(crate) fn total(branches: &[(u32, u32)], first: u32, count: u32, values: &[i
         sum += share(weight, values[place as usize]);
     }
     sum
+}
+
+// F times a reward.
+fn scaled(reward: i32) -> i64
+    requires least { ⌜ negℤ (pos 1000000) ≤ℤ reward ⌝ }
+    requires most { ⌜ reward ≤ℤ pos 1000000 ⌝ }
+    ensures value { λ r. ⌜ r ≡ pos 1048576 *ℤ reward ⌝ }
+    ensures low { λ r. ⌜ negℤ (pos (2 ^ 40)) ≤ℤ r ⌝ }
+    ensures high { λ r. ⌜ r ≤ℤ pos (2 ^ 40) ⌝ }
+{
+    1_048_576 * i64::from(reward)
+}
+
+// F times a reward, and a total over the denominator rounded to the side.
+pub(crate) fn worth<S: Side>(reward: i32, total: i64, denominator: u32) -> i64
+    requires least { ⌜ negℤ (pos 1000000) ≤ℤ reward ⌝ }
+    requires most { ⌜ reward ≤ℤ pos 1000000 ⌝ }
+    requires low { ⌜ negℤ (pos (2 ^ 62)) ≤ℤ total ⌝ }
+    requires high { ⌜ total ≤ℤ pos (2 ^ 62) ⌝ }
+    ensures { λ r. ⌜ r ≡ (pos 1048576 *ℤ reward) +ℤ rounds total denominator ⌝ }
+{
+    scaled(reward) + S::round(total, denominator)
 }

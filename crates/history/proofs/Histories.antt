@@ -1,4 +1,4 @@
--- The law over whole histories, from what each change of a book keeps.
+-- The law over whole histories: every engine holds a sound book of a lawful table, or nothing.
 use mathlib.Core.Path.{_≡_, refl, sym, ap, subst, _∙_}
 use mathlib.Core.Bool.{Bool, true, false, cond, _&&_}
 use mathlib.Core.List.{List, [], _∷_, _++_}
@@ -30,7 +30,9 @@ use Rattle.rules.specs.Refine.{refine}
 use Rattle.rules.specs.Choosing.{tabulate}
 use Rattle.rules.specs.Sweep.{sweeps}
 use Rattle.rules.specs.Play.{play}
-use Rattle.rules.specs.Promises.{upperAt, lowerAt, UpperHolds, LowerHolds}
+use Rattle.rules.specs.Promises.{upperAt, lowerAt}
+use Rattle.rules.specs.Sound.{Sound}
+use Rattle.rules.proofs.Promises.{every-sound}
 use Rattle.rules.specs.Promises as rules
 use Rattle.history.specs.Calls.{State, idle, loaded, Call, load, standing, refines, sweeping, close, quote, plan, counts, fresh, opened, afterLoad, afterCall, afterIdle, next, run}
 use Rattle.history.specs.Answers.{Answer, refused, done, quoted, planned, loadAnswer, quoteAnswer, planAnswer, answerLoaded, answer}
@@ -38,16 +40,6 @@ use Rattle.history.specs.Histories.{scale, excess, Holds, UpperPromise, LowerP
 use Rattle.history.specs.declared.refusal.Refusal.{Refusal}
 use Rattle.history.specs.declared.refusal.Refusal.the-variants as refusal
 use Rattle.history.proofs.Refusing.{found-or-none, answer-broken, answer-kept, after-broken, after-kept, next-load}
-
--- what every change of a book keeps, and what it gives
-pub record Keeps (Sound : Table → Book → Type 0) : Type 1 where
-  pub starts : (T : Table) → Lawful T → Sound T (start (settingOf T))
-  pub refining : (T : Table) → Lawful T → (B : Book) → Sound T B → (k n width : ℕ) → k < components T
-      → Sound T (refine (settingOf T) k n width B .book) × rules.Tighter (settingOf T) B (refine (settingOf T) k n width B .book)
-  pub sweeping : (T : Table) → Lawful T → (B : Book) → Sound T B → (n : ℕ)
-      → Sound T (sweeps (settingOf T) n B .book) × rules.Tighter (settingOf T) B (sweeps (settingOf T) n B .book)
-  pub upper : (T : Table) → Lawful T → (B : Book) → Sound T B → UpperHolds (settingOf T) B
-  pub lower : (T : Table) → Lawful T → (B : Book) → Sound T B → LowerHolds (settingOf T) B
 
 -- Bounds that stay, and bounds that tighten twice
 
@@ -127,197 +119,196 @@ module _ (T : Table) (memory : Bool) where
 
 -- Every history
 
-module _ (Sound : Table → Book → Type 0) (keeps : Keeps Sound) where
-  -- what holds of each state of an engine
-  Good : State → Type 0
-  Good (idle e) = Unit {0}
-  Good (loaded T B) = Lawful T × Sound T B
+-- what holds of each state of an engine
+Good : State → Type 0
+Good (idle e) = Unit {0}
+Good (loaded T B) = Lawful T × Sound (settingOf T) B
 
-  good-fresh : (T : Table) → faultOf T ≡ None → Good (fresh T)
-  unfolding Good
-  good-fresh T h = let law = walk-law T .lawful .0 h in (law, keeps .starts T law)
+good-fresh : (T : Table) → faultOf T ≡ None → Good (fresh T)
+unfolding Good
+good-fresh T h = let law = walk-law T .lawful .0 h in (law, every-sound (settingOf T) law .starts)
 
-  good-either : (b : Bool) (R S : State) → Good R → Good S → Good (cond b R S)
-  good-either true R S p q = p
-  good-either false R S p q = q
+good-either : (b : Bool) (R S : State) → Good R → Good S → Good (cond b R S)
+good-either true R S p q = p
+good-either false R S p q = q
 
-  good-open : (T : Table) (memory : Bool) → Good (opened T memory)
-  unfolding Good
-  good-open T memory =
-      elim (found-or-none (faultOf T)) [
-        | inl h ↦ subst Good (sym (open-kept T memory h)) (good-either memory (fresh T) (idle refusal.Memory) (good-fresh T h) tt)
-        | inr w ↦ subst Good (sym (open-broken T memory (w .0) (w .1))) tt
-      ]
+good-open : (T : Table) (memory : Bool) → Good (opened T memory)
+unfolding Good
+good-open T memory =
+    elim (found-or-none (faultOf T)) [
+      | inl h ↦ subst Good (sym (open-kept T memory h)) (good-either memory (fresh T) (idle refusal.Memory) (good-fresh T h) tt)
+      | inr w ↦ subst Good (sym (open-broken T memory (w .0) (w .1))) tt
+    ]
 
-  good-load : (T : Table) (memory : Bool) (S : State) → Good S → Good (afterLoad T memory S)
-  good-load T memory S g =
-      elim (found-or-none (faultOf T)) [
-        | inl h ↦ subst Good (sym (after-kept T memory S h)) (good-either memory (fresh T) S (good-fresh T h) g)
-        | inr w ↦ subst Good (sym (after-broken T memory (w .0) S (w .1))) g
-      ]
+good-load : (T : Table) (memory : Bool) (S : State) → Good S → Good (afterLoad T memory S)
+good-load T memory S g =
+    elim (found-or-none (faultOf T)) [
+      | inl h ↦ subst Good (sym (after-kept T memory S h)) (good-either memory (fresh T) S (good-fresh T h) g)
+      | inr w ↦ subst Good (sym (after-broken T memory (w .0) S (w .1))) g
+    ]
 
-  good-call : (T : Table) (B : Book) (c : Call) → Good (loaded T B) → Good (afterCall T B c)
-  unfolding Good afterCall
-  good-call T B (load T′ memory) g = good-load T′ memory (loaded T B) g
-  good-call T B standing g = g
-  good-call T B (refines k n width) g =
-      elim (cases-bool (ltb k (components T) && counts n)) [
-        | inl a ↦ (
-            let l = ltb-true k (components T) (and-parts (ltb k (components T)) (counts n) a .0) in
-            subst Good (sym (cond-true (ltb k (components T) && counts n) (loaded T (refine (settingOf T) k n width B .book)) (loaded T B) a))
-            (g .0, keeps .refining T (g .0) B (g .1) k n width l .0))
-        | inr a ↦ subst Good (sym (cond-false (ltb k (components T) && counts n) (loaded T (refine (settingOf T) k n width B .book)) (loaded T B) a)) g
-      ]
-  good-call T B (sweeping n) g =
-      good-either (counts n) (loaded T (sweeps (settingOf T) n B .book)) (loaded T B) (g .0, keeps .sweeping T (g .0) B (g .1) n .0) g
-  good-call T B close g = (g .0, keeps .starts T (g .0))
-  good-call T B (quote s width) g = g
-  good-call T B (plan list) g = g
+good-call : (T : Table) (B : Book) (c : Call) → Good (loaded T B) → Good (afterCall T B c)
+unfolding Good afterCall
+good-call T B (load T′ memory) g = good-load T′ memory (loaded T B) g
+good-call T B standing g = g
+good-call T B (refines k n width) g =
+    elim (cases-bool (ltb k (components T) && counts n)) [
+      | inl a ↦ (
+          let l = ltb-true k (components T) (and-parts (ltb k (components T)) (counts n) a .0) in
+          subst Good (sym (cond-true (ltb k (components T) && counts n) (loaded T (refine (settingOf T) k n width B .book)) (loaded T B) a))
+          (g .0, every-sound (settingOf T) (g .0) .refined k n width l B (g .1)))
+      | inr a ↦ subst Good (sym (cond-false (ltb k (components T) && counts n) (loaded T (refine (settingOf T) k n width B .book)) (loaded T B) a)) g
+    ]
+good-call T B (sweeping n) g =
+    good-either (counts n) (loaded T (sweeps (settingOf T) n B .book)) (loaded T B) (g .0, every-sound (settingOf T) (g .0) .swept n B (g .1)) g
+good-call T B close g = (g .0, every-sound (settingOf T) (g .0) .starts)
+good-call T B (quote s width) g = g
+good-call T B (plan list) g = g
 
-  good-idle : (e : Refusal) (c : Call) → Good (afterIdle e c)
-  unfolding Good afterIdle
-  good-idle e (load T memory) = good-load T memory (idle e) tt
-  good-idle e standing = tt
-  good-idle e (refines k n width) = tt
-  good-idle e (sweeping n) = tt
-  good-idle e close = tt
-  good-idle e (quote s width) = tt
-  good-idle e (plan list) = tt
+good-idle : (e : Refusal) (c : Call) → Good (afterIdle e c)
+unfolding Good afterIdle
+good-idle e (load T memory) = good-load T memory (idle e) tt
+good-idle e standing = tt
+good-idle e (refines k n width) = tt
+good-idle e (sweeping n) = tt
+good-idle e close = tt
+good-idle e (quote s width) = tt
+good-idle e (plan list) = tt
 
-  good-next : (S : State) (c : Call) → Good S → Good (next S c)
-  unfolding next
-  good-next (idle e) c g = good-idle e c
-  good-next (loaded T B) c g = good-call T B c g
+good-next : (S : State) (c : Call) → Good S → Good (next S c)
+unfolding next
+good-next (idle e) c g = good-idle e c
+good-next (loaded T B) c g = good-call T B c g
 
-  good-run : (S : State) (calls : List Call) → Good S → Good (run S calls)
-  unfolding run
-  good-run S [] g = g
-  good-run S (c ∷ cs) g = good-run (next S c) cs (good-next S c g)
+good-run : (S : State) (calls : List Call) → Good S → Good (run S calls)
+unfolding run
+good-run S [] g = g
+good-run S (c ∷ cs) g = good-run (next S c) cs (good-next S c g)
 
-  -- The upper bound
-  upper-loaded : (T : Table) (B : Book) → Good (loaded T B) → UpperPromise (loaded T B) T
-  unfolding Good
-  upper-loaded T B g σ names N s width h L U mark e =
-      let q = quote-is T B s width L U mark h e .1 in
-      subst (λ (z : ℤ). (pos scale *ℤ scaledReward T σ N s []) ≤ℤ (pos (T .denominator ^ N) *ℤ ((pos N *ℤ z) +ℤ pos (excess T)))) q
-      (keeps .upper T (g .0) B (g .1) σ names N s [] (h, tt))
+-- The upper bound
+upper-loaded : (T : Table) (B : Book) → Good (loaded T B) → UpperPromise (loaded T B) T
+unfolding Good
+upper-loaded T B g σ names N s width h L U mark e =
+    let q = quote-is T B s width L U mark h e .1 in
+    subst (λ (z : ℤ). (pos scale *ℤ scaledReward T σ N s []) ≤ℤ (pos (T .denominator ^ N) *ℤ ((pos N *ℤ z) +ℤ pos (excess T)))) q
+    (every-sound (settingOf T) (g .0) .upper B (g .1) σ names N s [] (h, tt))
 
-  upper-good : (S : State) (T : Table) → Good S → Holds S T → UpperPromise S T
-  upper-good (idle e) T g h = absurd h
-  upper-good (loaded T′ B) T g h = subst (UpperPromise (loaded T′ B)) h (upper-loaded T′ B g)
+upper-good : (S : State) (T : Table) → Good S → Holds S T → UpperPromise S T
+upper-good (idle e) T g h = absurd h
+upper-good (loaded T′ B) T g h = subst (UpperPromise (loaded T′ B)) h (upper-loaded T′ B g)
 
-  -- The lower bound
-  lower-loaded : (T : Table) (B : Book) → Good (loaded T B) → (list written : List ℕ) → answer (loaded T B) (plan list) ≡ planned written
-      → LowerPromise (loaded T B) T (λ s. getD written s 0)
-  unfolding Good
-  lower-loaded T B g list written a =
-      let low = keeps .lower T (g .0) B (g .1) in
-      let plays : Plan = λ s. getD written s 0 in
-      let agree : (s : ℕ) → s < T .states → play T B s ≡ plays s = λ s h. sym (plan-is T B list written a s h) in
-      record {
-        names = λ s h. subst (λ (c : ℕ). c < T .choices s) (agree s h) (low .names s h);
-        earns = λ N s width h L U mark e.
-            subst (λ (z : ℤ). (pos (T .denominator ^ N) *ℤ ((pos N *ℤ z) -ℤ pos (excess T))) ≤ℤ (pos scale *ℤ scaledReward T (follow plays) N s []))
-            (quote-is T B s width L U mark h e .0)
-            (subst (λ (v : ℤ). (pos (T .denominator ^ N) *ℤ ((pos N *ℤ lowerAt (settingOf T) B s) -ℤ pos (excess T))) ≤ℤ (pos scale *ℤ v))
-            (plan-cong T (g .0) (play T B) plays agree (low .names) N s [] h)
-            (low .earns N s [] h));
-      }
+-- The lower bound
+lower-loaded : (T : Table) (B : Book) → Good (loaded T B) → (list written : List ℕ) → answer (loaded T B) (plan list) ≡ planned written
+    → LowerPromise (loaded T B) T (λ s. getD written s 0)
+unfolding Good
+lower-loaded T B g list written a =
+    let low = every-sound (settingOf T) (g .0) .lower B (g .1) in
+    let plays : Plan = λ s. getD written s 0 in
+    let agree : (s : ℕ) → s < T .states → play T B s ≡ plays s = λ s h. sym (plan-is T B list written a s h) in
+    record {
+      names = λ s h. subst (λ (c : ℕ). c < T .choices s) (agree s h) (low .names s h);
+      earns = λ N s width h L U mark e.
+          subst (λ (z : ℤ). (pos (T .denominator ^ N) *ℤ ((pos N *ℤ z) -ℤ pos (excess T))) ≤ℤ (pos scale *ℤ scaledReward T (follow plays) N s []))
+          (quote-is T B s width L U mark h e .0)
+          (subst (λ (v : ℤ). (pos (T .denominator ^ N) *ℤ ((pos N *ℤ lowerAt (settingOf T) B s) -ℤ pos (excess T))) ≤ℤ (pos scale *ℤ v))
+          (plan-cong T (g .0) (play T B) plays agree (low .names) N s [] h)
+          (low .earns N s [] h));
+    }
 
-  lower-good : (S : State) (T : Table) → Good S → Holds S T → (list written : List ℕ) → answer S (plan list) ≡ planned written
-      → LowerPromise S T (λ s. getD written s 0)
-  lower-good (idle e) T g h list written a = absurd h
-  lower-good (loaded T′ B) T g h list written a =
-      subst (λ (R : Table). LowerPromise (loaded T′ B) R (λ s. getD written s 0)) h (lower-loaded T′ B g list written a)
+lower-good : (S : State) (T : Table) → Good S → Holds S T → (list written : List ℕ) → answer S (plan list) ≡ planned written
+    → LowerPromise S T (λ s. getD written s 0)
+lower-good (idle e) T g h list written a = absurd h
+lower-good (loaded T′ B) T g h list written a =
+    subst (λ (R : Table). LowerPromise (loaded T′ B) R (λ s. getD written s 0)) h (lower-loaded T′ B g list written a)
 
-  -- Bounds that only tighten
+-- Bounds that only tighten
 
-  -- the engine still holds T, with a book whose bounds are no wider
-  record Onward (T : Table) (B : Book) (S : State) : Type 0 where
-    book : Book
-    held : S ≡ loaded T book
-    good : Good (loaded T book)
-    tighter : rules.Tighter (settingOf T) B book
+-- the engine still holds T, with a book whose bounds are no wider
+record Onward (T : Table) (B : Book) (S : State) : Type 0 where
+  book : Book
+  held : S ≡ loaded T book
+  good : Good (loaded T book)
+  tighter : rules.Tighter (settingOf T) B book
 
-  stays : (T : Table) (B : Book) → Good (loaded T B) → Onward T B (loaded T B)
-  stays T B g = record { book = B; held = refl; good = g; tighter = still (settingOf T) B }
+stays : (T : Table) (B : Book) → Good (loaded T B) → Onward T B (loaded T B)
+stays T B g = record { book = B; held = refl; good = g; tighter = still (settingOf T) B }
 
-  quiet-load : (T : Table) (B : Book) → Good (loaded T B) → (T′ : Table) (memory : Bool) → (loadAnswer T′ memory ≡ done → ⊥)
-      → Onward T B (afterLoad T′ memory (loaded T B))
-  quiet-load T B g T′ true n =
-      elim (found-or-none (faultOf T′)) [
-        | inl h ↦ absurd (n (answer-kept T′ true h))
-        | inr w ↦ subst (Onward T B) (sym (after-broken T′ true (w .0) (loaded T B) (w .1))) (stays T B g)
-      ]
-  quiet-load T B g T′ false n =
-      elim (found-or-none (faultOf T′)) [
-        | inl h ↦ subst (Onward T B) (sym (after-kept T′ false (loaded T B) h)) (stays T B g)
-        | inr w ↦ subst (Onward T B) (sym (after-broken T′ false (w .0) (loaded T B) (w .1))) (stays T B g)
-      ]
+quiet-load : (T : Table) (B : Book) → Good (loaded T B) → (T′ : Table) (memory : Bool) → (loadAnswer T′ memory ≡ done → ⊥)
+    → Onward T B (afterLoad T′ memory (loaded T B))
+quiet-load T B g T′ true n =
+    elim (found-or-none (faultOf T′)) [
+      | inl h ↦ absurd (n (answer-kept T′ true h))
+      | inr w ↦ subst (Onward T B) (sym (after-broken T′ true (w .0) (loaded T B) (w .1))) (stays T B g)
+    ]
+quiet-load T B g T′ false n =
+    elim (found-or-none (faultOf T′)) [
+      | inl h ↦ subst (Onward T B) (sym (after-kept T′ false (loaded T B) h)) (stays T B g)
+      | inr w ↦ subst (Onward T B) (sym (after-broken T′ false (w .0) (loaded T B) (w .1))) (stays T B g)
+    ]
 
-  quiet-call : (T : Table) (B : Book) → Good (loaded T B) → (c : Call) → (answerLoaded T B c ≡ done → ⊥) → Onward T B (afterCall T B c)
-  unfolding Good answerLoaded afterCall
-  quiet-call T B g (load T′ memory) n = quiet-load T B g T′ memory n
-  quiet-call T B g standing n = stays T B g
-  quiet-call T B g (refines k m width) n =
-      let both = ltb k (components T) && counts m in
-      let made = refine (settingOf T) k m width B .book in
-      elim (cases-bool both) [
-        | inl a ↦ (
-            let l = ltb-true k (components T) (and-parts (ltb k (components T)) (counts m) a .0) in
-            let r = keeps .refining T (g .0) B (g .1) k m width l in
-            subst (Onward T B) (sym (cond-true both (loaded T made) (loaded T B) a))
-            (record { book = made; held = refl; good = (g .0, r .0); tighter = r .1 }))
-        | inr a ↦ subst (Onward T B) (sym (cond-false both (loaded T made) (loaded T B) a)) (stays T B g)
-      ]
-  quiet-call T B g (sweeping m) n =
-      let made = sweeps (settingOf T) m B .book in
-      elim (cases-bool (counts m)) [
-        | inl a ↦ (
-            let r = keeps .sweeping T (g .0) B (g .1) m in
-            subst (Onward T B) (sym (cond-true (counts m) (loaded T made) (loaded T B) a))
-            (record { book = made; held = refl; good = (g .0, r .0); tighter = r .1 }))
-        | inr a ↦ subst (Onward T B) (sym (cond-false (counts m) (loaded T made) (loaded T B) a)) (stays T B g)
-      ]
-  quiet-call T B g close n = absurd (n refl)
-  quiet-call T B g (quote s width) n = stays T B g
-  quiet-call T B g (plan list) n = stays T B g
+quiet-call : (T : Table) (B : Book) → Good (loaded T B) → (c : Call) → (answerLoaded T B c ≡ done → ⊥) → Onward T B (afterCall T B c)
+unfolding Good answerLoaded afterCall
+quiet-call T B g (load T′ memory) n = quiet-load T B g T′ memory n
+quiet-call T B g standing n = stays T B g
+quiet-call T B g (refines k m width) n =
+    let both = ltb k (components T) && counts m in
+    let made = refine (settingOf T) k m width B .book in
+    elim (cases-bool both) [
+      | inl a ↦ (
+          let l = ltb-true k (components T) (and-parts (ltb k (components T)) (counts m) a .0) in
+          let r = every-sound (settingOf T) (g .0) in
+          subst (Onward T B) (sym (cond-true both (loaded T made) (loaded T B) a))
+          (record { book = made; held = refl; good = (g .0, r .refined k m width l B (g .1)); tighter = r .refining k m width l B (g .1) }))
+      | inr a ↦ subst (Onward T B) (sym (cond-false both (loaded T made) (loaded T B) a)) (stays T B g)
+    ]
+quiet-call T B g (sweeping m) n =
+    let made = sweeps (settingOf T) m B .book in
+    elim (cases-bool (counts m)) [
+      | inl a ↦ (
+          let r = every-sound (settingOf T) (g .0) in
+          subst (Onward T B) (sym (cond-true (counts m) (loaded T made) (loaded T B) a))
+          (record { book = made; held = refl; good = (g .0, r .swept m B (g .1)); tighter = r .sweeping m B (g .1) }))
+      | inr a ↦ subst (Onward T B) (sym (cond-false (counts m) (loaded T made) (loaded T B) a)) (stays T B g)
+    ]
+quiet-call T B g close n = absurd (n refl)
+quiet-call T B g (quote s width) n = stays T B g
+quiet-call T B g (plan list) n = stays T B g
 
-  onward : (T : Table) (B : Book) → Good (loaded T B) → (calls : List Call) → Quiet (loaded T B) calls → Onward T B (run (loaded T B) calls)
-  unfolding run next answer
-  onward T B g [] q = stays T B g
-  onward T B g (c ∷ cs) q =
-      let o = quiet-call T B g c (q .0) in
-      let r = onward T (o .book) (o .good) cs (subst (λ (S : State). Quiet S cs) (o .held) (q .1)) in
-      subst (λ (S : State). Onward T B (run S cs)) (sym (o .held))
-      (record { book = r .book; held = r .held; good = r .good; tighter = twice (settingOf T) B (o .book) (r .book) (o .tighter) (r .tighter) })
+onward : (T : Table) (B : Book) → Good (loaded T B) → (calls : List Call) → Quiet (loaded T B) calls → Onward T B (run (loaded T B) calls)
+unfolding run next answer
+onward T B g [] q = stays T B g
+onward T B g (c ∷ cs) q =
+    let o = quiet-call T B g c (q .0) in
+    let r = onward T (o .book) (o .good) cs (subst (λ (S : State). Quiet S cs) (o .held) (q .1)) in
+    subst (λ (S : State). Onward T B (run S cs)) (sym (o .held))
+    (record { book = r .book; held = r .held; good = r .good; tighter = twice (settingOf T) B (o .book) (r .book) (o .tighter) (r .tighter) })
 
-  tighter-answers : (T : Table) (A B : Book) → rules.Tighter (settingOf T) A B → Tighter (loaded T A) (loaded T B) T
-  tighter-answers T A B t = record {
-    states = λ s v w h L U L′ U′ mark mark′ p q.
-        let a = quote-is T A s v L U mark h p in
-        let b = quote-is T B s w L′ U′ mark′ h q in (
-          le-trans L (lowerAt (settingOf T) A s) L′ (le-same L (lowerAt (settingOf T) A s) (sym (a .0)))
-              (le-trans (lowerAt (settingOf T) A s) (lowerAt (settingOf T) B s) L′ (t .lower s h) (le-same (lowerAt (settingOf T) B s) L′ (b .0))),
-          le-trans U′ (upperAt (settingOf T) B s) U (le-same U′ (upperAt (settingOf T) B s) (sym (b .1)))
-              (le-trans (upperAt (settingOf T) B s) (upperAt (settingOf T) A s) U (t .upper s h) (le-same (upperAt (settingOf T) A s) U (a .1))),
-        );
-    components = λ k h. (t .lo k h, t .hi k h);
-  }
+tighter-answers : (T : Table) (A B : Book) → rules.Tighter (settingOf T) A B → Tighter (loaded T A) (loaded T B) T
+tighter-answers T A B t = record {
+  states = λ s v w h L U L′ U′ mark mark′ p q.
+      let a = quote-is T A s v L U mark h p in
+      let b = quote-is T B s w L′ U′ mark′ h q in (
+        le-trans L (lowerAt (settingOf T) A s) L′ (le-same L (lowerAt (settingOf T) A s) (sym (a .0)))
+            (le-trans (lowerAt (settingOf T) A s) (lowerAt (settingOf T) B s) L′ (t .lower s h) (le-same (lowerAt (settingOf T) B s) L′ (b .0))),
+        le-trans U′ (upperAt (settingOf T) B s) U (le-same U′ (upperAt (settingOf T) B s) (sym (b .1)))
+            (le-trans (upperAt (settingOf T) B s) (upperAt (settingOf T) A s) U (t .upper s h) (le-same (upperAt (settingOf T) A s) U (a .1))),
+      );
+  components = λ k h. (t .lo k h, t .hi k h);
+}
 
-  tight-good : (S : State) (T : Table) (later : List Call) → Good S → Holds S T → Quiet S later
-      → Holds (run S later) T × Tighter S (run S later) T
-  tight-good (idle e) T later g h q = absurd h
-  tight-good (loaded T′ B) T later g h q =
-      let o = onward T′ B g later q in
-      subst (λ (R : Table). Holds (run (loaded T′ B) later) R × Tighter (loaded T′ B) (run (loaded T′ B) later) R) h
-      (subst (λ (S : State). Holds S T′ × Tighter (loaded T′ B) S T′) (sym (o .held)) (refl, tighter-answers T′ B (o .book) (o .tighter)))
+tight-good : (S : State) (T : Table) (later : List Call) → Good S → Holds S T → Quiet S later
+    → Holds (run S later) T × Tighter S (run S later) T
+tight-good (idle e) T later g h q = absurd h
+tight-good (loaded T′ B) T later g h q =
+    let o = onward T′ B g later q in
+    subst (λ (R : Table). Holds (run (loaded T′ B) later) R × Tighter (loaded T′ B) (run (loaded T′ B) later) R) h
+    (subst (λ (S : State). Holds S T′ × Tighter (loaded T′ B) S T′) (sym (o .held)) (refl, tighter-answers T′ B (o .book) (o .tighter)))
 
-  pub every-history : EveryHistory
-  every-history T memory =
-      let good : (calls : List Call) → Good (run (opened T memory) calls) = λ calls. good-run (opened T memory) calls (good-open T memory) in
-      record {
-        upper = λ calls R h. upper-good (run (opened T memory) calls) R (good calls) h;
-        lower = λ calls R h. lower-good (run (opened T memory) calls) R (good calls) h;
-        tight = λ calls later R h q. tight-good (run (opened T memory) calls) R later (good calls) h q;
-      }
+pub every-history : EveryHistory
+every-history T memory =
+    let good : (calls : List Call) → Good (run (opened T memory) calls) = λ calls. good-run (opened T memory) calls (good-open T memory) in
+    record {
+      upper = λ calls R h. upper-good (run (opened T memory) calls) R (good calls) h;
+      lower = λ calls R h. lower-good (run (opened T memory) calls) R (good calls) h;
+      tight = λ calls later R h q. tight-good (run (opened T memory) calls) R later (good calls) h q;
+    }

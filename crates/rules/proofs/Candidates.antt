@@ -1,29 +1,27 @@
 -- The best candidate of a node is the first of its largest ones, and every node has one.
 use mathlib.Core.Path.{_≡_, refl, sym, ap, _∙_, subst}
-use mathlib.Core.Bool.{Bool, true, false, cond}
+use mathlib.Core.Bool.{Bool, true, false}
 use mathlib.Core.Logic.{_⊎_, inl, inr, ⊎-elim}
 use mathlib.Core.List.{List}
 use Prim.Native.Nat.{ℕ, zero, suc, _<_, _≤_}
 use native.Mathlib.Omega.{arith}
 use lib.Dec.{eqb}
 use lib.IntN.{ℤ}
-use lib.Signed.{_≤ℤ_, _<ℤ_, ltZ}
+use lib.Signed.{ltZ}
 use Rattle.std.specs.declared.option.Option.{Option}
 use Rattle.std.specs.declared.option.Option.the-variants.{Some, None}
 use Rattle.std.proofs.shelf.Tests.{cases-eq, cases-bool, both-ways, cond-both, eq-eqb, eqb-true}
 use Rattle.table.specs.Limits.{Lawful}
-use Rattle.horizon.specs.Means.{Rounding, mean}
+use Rattle.horizon.specs.Means.{Rounding}
 use Rattle.horizon.proofs.Ring.{lin}
 use Rattle.components.specs.Inside.{inside}
 use Rattle.components.specs.Nodes.{nodes, nodeOf, inComponent, componentOf, lowestOf, componentAt}
-use Rattle.components.specs.Depth.{Leaving}
 use Rattle.rules.specs.Choosing.{atZ}
 use Rattle.rules.specs.Setting.{Setting}
-use Rattle.rules.specs.Sweep.{Candidate, better, overChoices, overStates, staying, bestOf, valueOr, exitOr}
+use Rattle.rules.specs.Sweep.{Candidate, better, overChoices, overStates, staying, bestOf}
 use Rattle.rules.specs.Candidates.{stayCandidate, leaveCandidate, meanOf, CandidateOf, stays, leaves, Earlier, FirstBest}
 use Rattle.rules.specs.declared.exit.Exit.{Exit}
 use Rattle.rules.specs.declared.exit.Exit.the-variants.{Stay, Leave}
-use Rattle.rules.proofs.Order.{le-self}
 use Rattle.rules.proofs.Nodes.{none-inside, lowest-state, lowest-node, component-some}
 
 -- no two exits are each earlier than the other

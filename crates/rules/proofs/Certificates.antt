@@ -1,10 +1,9 @@
 -- A certificate of one component, put in place of what was there.
-use mathlib.Core.Path.{_≡_, refl, sym, ap, _∙_}
-use mathlib.Core.Bool.{Bool, true, false, cond}
+use mathlib.Core.Path.{_≡_}
+use mathlib.Core.Bool.{true, false, cond}
 use mathlib.Core.Logic.{⊎-elim}
-use Prim.Native.Nat.{ℕ, _*_, _<_, _≤_}
-use native.Mathlib.Omega.{arith}
-use lib.IntN.{ℤ, pos, _+ℤ_, _*ℤ_}
+use Prim.Native.Nat.{ℕ, _<_, _≤_}
+use lib.IntN.{ℤ, pos, _+ℤ_}
 use lib.Signed.{_≤ℤ_}
 use Rattle.std.proofs.shelf.Tests.{cases-bool, both-ways, cond-true, cond-false, cond-both}
 use Rattle.table.specs.Table.{successor, weight}
@@ -15,7 +14,6 @@ use Rattle.horizon.proofs.Sums.{weightedN-cong}
 use Rattle.horizon.proofs.Means.{bias-under, bias-over}
 use Rattle.components.specs.Inside.{inside}
 use Rattle.components.specs.Nodes.{inComponent, componentOf, statesOf}
-use Rattle.components.proofs.Reversible.{inside-in}
 use Rattle.rules.specs.Setting.{Setting}
 use Rattle.rules.specs.Refine.{worth}
 use Rattle.rules.specs.Sound.{UpperCertified, LowerCertified}

@@ -1,10 +1,10 @@
 -- The largest and the least bound what they are of, and are reached
-use mathlib.Core.Path.{_≡_, refl, ap}
-use mathlib.Core.Bool.{Bool, true, false, cond, _&&_}
+use mathlib.Core.Path.{_≡_, refl}
+use mathlib.Core.Bool.{Bool, true, false, _&&_}
 use mathlib.Core.Logic.{_⊎_, inl, inr, ⊎-elim}
 use Prim.Native.Nat.{ℕ, zero, suc, _<_}
 use native.Mathlib.Omega.{arith}
-use lib.IntN.{ℤ, pos, negℤ}
+use lib.IntN.{ℤ, negℤ}
 use lib.Signed.{_≤ℤ_, ltZ}
 use Rattle.std.proofs.shelf.Tests.{cases-eq, and-parts, and-cases, both-ways, cond-both}
 use Rattle.components.specs.Below.{first}

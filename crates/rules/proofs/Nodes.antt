@@ -1,7 +1,7 @@
 -- Inside choices keep the node and the component of a state; a node's lowest state, component and depth.
 use mathlib.Core.Path.{_≡_, refl, sym, _∙_, ap}
-use mathlib.Core.Bool.{Bool, true, false, cond, _&&_}
-use mathlib.Core.Logic.{_⊎_, inl, inr, ⊎-elim}
+use mathlib.Core.Bool.{Bool, true, false}
+use mathlib.Core.Logic.{⊎-elim}
 use Prim.Native.Nat.{ℕ, _<_, _≤_}
 use native.Mathlib.Omega.{arith}
 use lib.Dec.{eqb}
@@ -10,15 +10,15 @@ use Rattle.std.specs.declared.option.Option.the-variants.{Some, None}
 use Rattle.std.proofs.shelf.Tests.{cases-bool, both-ways, cond-true, cond-false, eq-eqb, eqb-true, and-parts, and-from}
 use Rattle.table.specs.Table.{Table, successor}
 use Rattle.table.specs.Limits.{Lawful}
-use Rattle.components.specs.Below.{count, first}
-use Rattle.components.specs.EndComponent.{Choice, Reaches}
+use Rattle.components.specs.Below.{count}
+use Rattle.components.specs.EndComponent.{Reaches}
 use Rattle.components.specs.Inside.{inside}
 use Rattle.components.specs.Nodes.{inComponent, lowest, isLowest, heads, nodes, nodeOf, components, componentOf, statesOfNode, statesOf, lowestOf, componentAt}
-use Rattle.components.specs.Depth.{Leaving, depth}
+use Rattle.components.specs.Depth.{depth}
 use Rattle.components.proofs.Below.{first-le, first-at}
 use Rattle.components.proofs.Reach.{within, once}
-use Rattle.components.proofs.Reversible.{Acts, inside-in}
-use Rattle.components.proofs.Numbering.{acts-of, of-acts, in-same, num-same, num-bound, node-numbers, component-numbers}
+use Rattle.components.proofs.Reversible.{inside-in}
+use Rattle.components.proofs.Numbering.{acts-of, of-acts, in-same, num-same, node-numbers}
 use Rattle.components.proofs.Components.{own, component-bound, component-law}
 use Rattle.components.proofs.Nodes.{own-node, node-bound, node-reached, node-law}
 use Rattle.components.proofs.Depth.{depth-law}

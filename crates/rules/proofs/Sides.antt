@@ -1,9 +1,9 @@
 -- What both sides of a mean keep, and the rewards of a table between its least and its largest.
-use mathlib.Core.Path.{_≡_, refl, sym, _∙_}
+use mathlib.Core.Path.{_≡_, refl, _∙_}
 use mathlib.Core.Bool.{true}
 use Prim.Native.Nat.{ℕ, _<_}
 use native.Mathlib.Omega.{arith}
-use lib.IntN.{ℤ, pos, _*ℤ_}
+use lib.IntN.{pos, _*ℤ_}
 use lib.Signed.{_≤ℤ_}
 use Rattle.table.specs.Table.{Table}
 use Rattle.table.specs.Limits.{Lawful}

@@ -1,23 +1,20 @@
 -- One refine step keeps a book sound.
-use mathlib.Core.Path.{_≡_, refl, sym, ap, _∙_}
-use mathlib.Core.Bool.{Bool, true, false}
-use mathlib.Core.Logic.{_⊎_, ⊎-elim}
+use mathlib.Core.Path.{_≡_, sym, ap, _∙_}
+use mathlib.Core.Bool.{true, false}
+use mathlib.Core.Logic.{⊎-elim}
 use Prim.Native.Nat.{ℕ, _<_}
 use native.Mathlib.Omega.{arith}
-use lib.IntN.{ℤ, pos, _+ℤ_}
-use lib.Signed.{_≤ℤ_, ltZ}
+use lib.IntN.{ℤ}
+use lib.Signed.{ltZ}
 use Rattle.std.proofs.shelf.Tests.{cases-bool, both-ways, cond-true, cond-false}
 use Rattle.table.specs.Limits.{Lawful}
-use Rattle.horizon.specs.Means.{roundUp, roundDown}
 use Rattle.horizon.proofs.Ring.{lin}
-use Rattle.components.specs.Inside.{inside}
-use Rattle.components.specs.Nodes.{nodes, nodeOf, inComponent, componentOf, components, statesOf}
-use Rattle.components.proofs.Reversible.{inside-in}
+use Rattle.components.specs.Nodes.{nodeOf, inComponent, componentOf, components, statesOf}
 use Rattle.rules.specs.Setting.{Setting}
 use Rattle.rules.specs.Choosing.{at, atZ}
 use Rattle.rules.specs.Book.{Book, exitAt}
-use Rattle.rules.specs.Refine.{worth, largestUp, leastDown, attains, nextHi, nextLo, step}
-use Rattle.rules.specs.Sound.{UpperCertified, LowerCertified, WorthOf, Subsolution, LeavesFor, Sound}
+use Rattle.rules.specs.Refine.{largestUp, leastDown, nextHi, nextLo, step}
+use Rattle.rules.specs.Sound.{UpperCertified, LowerCertified, WorthOf, Sound}
 use Rattle.rules.specs.Fit.{Fit}
 use Rattle.rules.specs.Promises.{Tighter}
 use Rattle.rules.specs.declared.exit.Exit.{Exit}

@@ -1,20 +1,17 @@
 -- The book at the start fits and is sound.
 use mathlib.Core.Path.{_≡_, refl, sym, ap, _∙_, subst}
-use mathlib.Core.Bool.{Bool, true, false, cond}
-use mathlib.Core.Logic.{_⊎_, inl, inr, ⊎-elim}
-use Prim.Native.Nat.{ℕ, suc, _*_, _<_, _≤_}
+use mathlib.Core.Bool.{true, false, cond}
+use mathlib.Core.Logic.{inr, ⊎-elim}
+use Prim.Native.Nat.{ℕ, suc, _<_}
 use native.Mathlib.Omega.{arith}
-use native.Mathlib.Nat.{mul-zero}
-use lib.IntN.{ℤ, pos, _+ℤ_, _*ℤ_}
-use lib.Signed.{_≤ℤ_}
+use lib.IntN.{ℤ, pos, _+ℤ_}
 use lib.ListN.{replicate}
 use Rattle.std.specs.declared.option.Option.{Option}
 use Rattle.std.specs.declared.option.Option.the-variants.{Some, None}
 use Rattle.std.proofs.shelf.Lists.{length-replicate, getD-replicate}
-use Rattle.std.proofs.shelf.Tests.{cases-bool, both-ways, cond-true, cond-false, cond-both}
-use Rattle.table.specs.Table.{Table, successor}
+use Rattle.std.proofs.shelf.Tests.{cases-bool, cond-true, cond-both}
+use Rattle.table.specs.Table.{successor}
 use Rattle.table.specs.Limits.{Lawful}
-use Rattle.horizon.specs.Sums.{branchSumN, branchSumZ}
 use Rattle.horizon.specs.Means.{roundDown, roundUp, mean}
 use Rattle.horizon.proofs.Ring.{lin}
 use Rattle.horizon.proofs.Branches.{branchSumZ-from, branchSumZ-to}
@@ -22,19 +19,19 @@ use Rattle.horizon.proofs.Means.{bias-under, bias-over}
 use Rattle.components.specs.Below.{first}
 use Rattle.components.specs.Inside.{inside}
 use Rattle.components.specs.Nodes.{nodes, nodeOf, components, componentOf, inComponent, lowestOf, componentAt}
-use Rattle.components.specs.Depth.{Leaving, depth}
+use Rattle.components.specs.Depth.{depth}
 use Rattle.components.proofs.Below.{first-le, first-at}
 use Rattle.components.proofs.Reversible.{inside-in}
 use Rattle.rules.specs.Setting.{Setting, bottom, top}
 use Rattle.rules.specs.Choosing.{at, atZ}
-use Rattle.rules.specs.Book.{Book, exitAt, start}
-use Rattle.rules.specs.Fit.{VectorFits, RecordedFits, Within, ExitFits, PlanFits, Lengths, Fit}
-use Rattle.rules.specs.Sound.{UpperCertified, LowerCertified, Supersolution, LeavesFor, WorthOf, Subsolution, Ahead, Leads, Progress, Sound}
+use Rattle.rules.specs.Book.{exitAt, start}
+use Rattle.rules.specs.Fit.{RecordedFits, Within, ExitFits, PlanFits, Fit}
+use Rattle.rules.specs.Sound.{UpperCertified, LowerCertified, Supersolution, WorthOf, Subsolution, Leads, Progress, Sound}
 use Rattle.rules.specs.declared.exit.Exit.{Exit}
 use Rattle.rules.specs.declared.exit.Exit.the-variants.{Stay, Leave}
 use Rattle.rules.proofs.Places.{tabulate-at, tabulate-length}
 use Rattle.rules.proofs.Nodes.{inside-choice, in-component, none-inside, in-together, own-component, some-state, node-number, lowest-state, lowest-node, component-some, component-none, depth-low, depth-falls}
-use Rattle.rules.proofs.Sides.{Side, lower-side, upper-side, over-bottom, under-top, bottom-top}
+use Rattle.rules.proofs.Sides.{lower-side, upper-side, over-bottom, under-top, bottom-top}
 
 module _ (M : Setting) (L : Lawful (M .table)) where
   -- a list of one number

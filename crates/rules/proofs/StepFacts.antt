@@ -1,28 +1,27 @@
 -- What one step within a component finds.
-use mathlib.Core.Path.{_≡_, refl, sym, ap, _∙_}
-use mathlib.Core.Bool.{Bool, true, false, cond, not, _&&_, _||_}
-use mathlib.Core.Logic.{_⊎_, inl, inr, ⊎-elim}
-use Prim.Native.Nat.{ℕ, _*_, _<_, _≤_}
+use mathlib.Core.Path.{_≡_, sym}
+use mathlib.Core.Bool.{Bool, true, false, not, _&&_, _||_}
+use mathlib.Core.Logic.{⊎-elim}
+use Prim.Native.Nat.{ℕ, _<_, _≤_}
 use native.Mathlib.Omega.{arith}
 use lib.Dec.{leb}
-use lib.IntN.{ℤ, pos, natAbs, _+ℤ_, _-ℤ_, _*ℤ_}
+use lib.IntN.{pos, _+ℤ_}
 use lib.Signed.{_≤ℤ_}
 use borrow.Author.Differences.{abs-is}
 use Rattle.std.proofs.shelf.Tests.{and-parts, and-from, or-cases, not-true, not-false, both-ways, leb-true}
 use Rattle.table.specs.Table.{successor}
 use Rattle.table.specs.Limits.{Lawful}
-use Rattle.horizon.specs.Means.{Rounding, roundDown, roundUp, mean}
+use Rattle.horizon.specs.Means.{Rounding, roundDown, roundUp}
 use Rattle.horizon.proofs.Ring.{lin}
 use Rattle.horizon.proofs.Means.{mean-from, mean-to}
-use Rattle.components.specs.Below.{first, every}
+use Rattle.components.specs.Below.{every}
 use Rattle.components.specs.Inside.{inside}
-use Rattle.components.specs.Nodes.{inComponent, componentOf, components, statesOf}
+use Rattle.components.specs.Nodes.{inComponent, components, statesOf}
 use Rattle.components.proofs.Below.{first-le, first-at, every-at}
 use Rattle.components.proofs.Reversible.{inside-in}
 use Rattle.rules.specs.Setting.{Setting, bottom, top}
-use Rattle.rules.specs.Choosing.{eqZ, largest, smallest}
+use Rattle.rules.specs.Choosing.{eqZ}
 use Rattle.rules.specs.Refine.{worth, best, gain, largestUp, leastDown, attains, halfway, shifted, held}
-use Rattle.rules.specs.Fit.{VectorFits}
 use Rattle.rules.proofs.Order.{eqZ-true, eqZ-from}
 use Rattle.rules.proofs.Choosing.{largest-bound, largest-reached, smallest-bound, smallest-reached}
 use Rattle.rules.proofs.Nodes.{inside-choice, of-component, some-state, stays-in}

@@ -1,24 +1,24 @@
 -- One refine step: what it makes of each list, and that the book still fits.
-use mathlib.Core.Path.{_≡_, refl, sym, ap, _∙_}
+use mathlib.Core.Path.{_≡_, refl, sym, _∙_}
 use mathlib.Core.Bool.{Bool, true, false, cond, not, _&&_}
 use mathlib.Core.Logic.{_⊎_, inl, inr, ⊎-elim}
-use Prim.Native.Nat.{ℕ, _<_, _≤_}
+use Prim.Native.Nat.{ℕ, _<_}
 use native.Mathlib.Omega.{arith}
-use lib.IntN.{ℤ, pos, _+ℤ_}
+use lib.IntN.{ℤ, pos}
 use lib.Signed.{_≤ℤ_, ltZ}
-use lib.ListN.{length, set}
+use lib.ListN.{length}
 use Rattle.std.proofs.shelf.Lists.{length-set}
-use Rattle.std.proofs.shelf.Tests.{cases-eq, cases-bool, both-ways, cond-true, cond-false, cond-both, and-parts, and-from, and-left, and-right, not-from-true, not-from-false}
+use Rattle.std.proofs.shelf.Tests.{cases-eq, cases-bool, cond-true, cond-false, cond-both, and-from, and-left, and-right, not-from-true, not-from-false}
 use Rattle.table.specs.Limits.{Lawful}
 use Rattle.horizon.proofs.Ring.{lin}
-use Rattle.components.specs.Nodes.{inComponent, componentOf, components, statesOf}
-use Rattle.rules.specs.Setting.{Setting, bottom, top}
+use Rattle.components.specs.Nodes.{components, statesOf}
+use Rattle.rules.specs.Setting.{Setting}
 use Rattle.rules.specs.Choosing.{at, atZ}
 use Rattle.rules.specs.Book.{Book}
 use Rattle.rules.specs.Refine.{largestUp, leastDown, attains, shifted, held, nextVector, nextHi, nextLo, nextRecorded, step}
 use Rattle.rules.specs.Fit.{Lengths, VectorFits, RecordedFits, Within, Fit}
 use Rattle.rules.proofs.Places.{tabulate-at, tabulate-length, set-here, set-other}
-use Rattle.rules.proofs.Nodes.{of-component, to-component}
+use Rattle.rules.proofs.Nodes.{of-component}
 use Rattle.rules.proofs.StepFacts.{attains-names, largest-bottom, least-top, shifted-capped, shifted-rooted}
 
 -- hi becomes the lesser of it and the largest up

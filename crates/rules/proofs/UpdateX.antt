@@ -1,12 +1,10 @@
 -- The update of a node keeps x a supersolution, and never raises it.
-use mathlib.Core.Path.{_≡_, refl, sym, ap, _∙_, subst}
-use mathlib.Core.Bool.{Bool, true, false}
-use mathlib.Core.Logic.{_⊎_, inl, inr, ⊎-elim}
+use mathlib.Core.Path.{_≡_, refl, ap, _∙_}
+use mathlib.Core.Logic.{⊎-elim}
 use Prim.Native.Nat.{ℕ, _<_}
 use native.Mathlib.Omega.{arith}
-use lib.IntN.{ℤ, pos, _*ℤ_}
+use lib.IntN.{ℤ}
 use lib.Signed.{_≤ℤ_}
-use lib.ListN.{length}
 use Rattle.std.proofs.shelf.Tests.{cases-eq}
 use Rattle.table.specs.Table.{successor}
 use Rattle.table.specs.Limits.{Lawful}
@@ -15,14 +13,13 @@ use Rattle.horizon.specs.Means.{roundUp, mean}
 use Rattle.horizon.proofs.Ring.{lin}
 use Rattle.horizon.proofs.Branches.{branchSumZ-mono}
 use Rattle.horizon.proofs.Means.{sum-under, upper-under}
-use Rattle.components.specs.Inside.{inside}
-use Rattle.components.specs.Nodes.{nodes, nodeOf, inComponent, componentOf, lowestOf}
+use Rattle.components.specs.Nodes.{nodes, nodeOf, componentOf, lowestOf}
 use Rattle.components.specs.Depth.{Leaving}
 use Rattle.rules.specs.Setting.{Setting}
 use Rattle.rules.specs.Choosing.{atZ}
 use Rattle.rules.specs.Book.{Book}
 use Rattle.rules.specs.Sweep.{Candidate, update}
-use Rattle.rules.specs.Candidates.{stayCandidate, leaveCandidate, meanOf, CandidateOf, stays, leaves, FirstBest}
+use Rattle.rules.specs.Candidates.{stayCandidate, leaveCandidate, meanOf, CandidateOf, stays, leaves}
 use Rattle.rules.specs.Fit.{Fit}
 use Rattle.rules.specs.Sound.{Supersolution}
 use Rattle.rules.proofs.Nodes.{lowest-state, lowest-node, component-is, component-some, node-number}

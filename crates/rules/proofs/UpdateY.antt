@@ -1,13 +1,12 @@
 -- The update of a node keeps y a subsolution for the plan, never lowers it, and keeps each plan that leaves leading ahead.
 use mathlib.Core.Path.{_≡_, refl, sym, ap, _∙_, subst}
 use mathlib.Core.Bool.{Bool, true, false, cond}
-use mathlib.Core.Logic.{_⊎_, inl, inr, ⊎-elim}
+use mathlib.Core.Logic.{inl, inr, ⊎-elim}
 use Prim.Native.Nat.{ℕ, suc, _<_, _≤_}
 use native.Mathlib.Omega.{arith}
 use lib.Dec.{eqb}
-use lib.IntN.{ℤ, pos, _-ℤ_, _*ℤ_}
+use lib.IntN.{ℤ, pos, _-ℤ_}
 use lib.Signed.{_≤ℤ_, _<ℤ_, leZ}
-use lib.ListN.{length}
 use Rattle.std.proofs.shelf.Tests.{cases-eq, cases-bool, cond-true, cond-false, eq-eqb, ne-eqb, cases-lt, both-ways}
 use Rattle.table.specs.Table.{successor}
 use Rattle.table.specs.Limits.{Lawful}
@@ -17,16 +16,16 @@ use Rattle.horizon.proofs.Ring.{lin, cases-Z}
 use Rattle.horizon.proofs.Branches.{branchSumZ-mono}
 use Rattle.horizon.proofs.Means.{sum-over, lower-over, mean-to}
 use Rattle.components.specs.Below.{any}
-use Rattle.components.specs.Nodes.{nodes, nodeOf, inComponent, componentOf, lowestOf}
+use Rattle.components.specs.Nodes.{nodes, nodeOf, componentOf, lowestOf}
 use Rattle.components.specs.Depth.{Leaving}
 use Rattle.components.proofs.Below.{any-some, any-none}
 use Rattle.rules.specs.Setting.{Setting}
 use Rattle.rules.specs.Choosing.{atZ}
 use Rattle.rules.specs.Book.{Book, exitAt}
 use Rattle.rules.specs.Sweep.{Candidate, bestY, exitOr, update}
-use Rattle.rules.specs.Candidates.{stayCandidate, leaveCandidate, meanOf, CandidateOf, stays, leaves, FirstBest}
+use Rattle.rules.specs.Candidates.{stayCandidate, leaveCandidate, meanOf, CandidateOf, stays, leaves}
 use Rattle.rules.specs.Fit.{Fit}
-use Rattle.rules.specs.Sound.{LeavesFor, WorthOf, Subsolution, Ahead, Leads, Progress}
+use Rattle.rules.specs.Sound.{WorthOf, Subsolution, Ahead, Leads, Progress}
 use Rattle.rules.specs.declared.exit.Exit.{Exit}
 use Rattle.rules.specs.declared.exit.Exit.the-variants.{Stay, Leave}
 use Rattle.rules.proofs.Order.{le-self}

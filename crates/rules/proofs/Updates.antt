@@ -1,7 +1,7 @@
 -- The update of a node: its new numbers lie in range, and its new exit names a choice of the node. One text for both sides.
 use mathlib.Core.Path.{_≡_, refl, sym, ap, _∙_, subst}
-use mathlib.Core.Bool.{Bool, true, false, cond}
-use mathlib.Core.Logic.{_⊎_, inl, inr, ⊎-elim}
+use mathlib.Core.Bool.{Bool, cond}
+use mathlib.Core.Logic.{⊎-elim}
 use mathlib.Core.List.{List}
 use Prim.Native.Nat.{ℕ, _<_}
 use native.Mathlib.Omega.{arith}
@@ -9,24 +9,22 @@ use lib.IntN.{ℤ, pos}
 use lib.Signed.{_≤ℤ_, ltZ}
 use lib.ListN.{length}
 use Rattle.std.specs.declared.option.Option.{Option}
-use Rattle.std.specs.declared.option.Option.the-variants.{Some, None}
+use Rattle.std.specs.declared.option.Option.the-variants.{Some}
 use Rattle.std.proofs.shelf.Lists.{length-set}
-use Rattle.std.proofs.shelf.Tests.{cases-eq, cases-bool, cond-true, cond-false, cond-both}
+use Rattle.std.proofs.shelf.Tests.{cases-eq, cond-both}
 use Rattle.table.specs.Table.{successor}
 use Rattle.table.specs.Limits.{Lawful}
-use Rattle.horizon.specs.Means.{Rounding, roundDown, roundUp, mean}
-use Rattle.horizon.proofs.Ring.{lin}
+use Rattle.horizon.specs.Means.{Rounding, roundDown, roundUp}
 use Rattle.horizon.proofs.Means.{mean-from, mean-to}
-use Rattle.components.specs.Nodes.{nodes, nodeOf, components, componentOf, lowestOf, componentAt}
-use Rattle.components.specs.Depth.{Leaving}
+use Rattle.components.specs.Nodes.{nodes, nodeOf, components, lowestOf, componentAt}
 use Rattle.rules.specs.Choosing.{atZ}
 use Rattle.rules.specs.Setting.{Setting, bottom, top}
 use Rattle.rules.specs.Book.{Book, exitAt}
 use Rattle.rules.specs.Sweep.{Candidate, bestOf, bestX, bestY, valueOr, exitOr, update}
-use Rattle.rules.specs.Candidates.{stayCandidate, leaveCandidate, meanOf, CandidateOf, stays, leaves, FirstBest}
+use Rattle.rules.specs.Candidates.{CandidateOf, stays, leaves, FirstBest}
 use Rattle.rules.specs.Fit.{Within, ExitFits, PlanFits, Lengths, Fit}
 use Rattle.rules.specs.declared.exit.Exit.{Exit}
-use Rattle.rules.specs.declared.exit.Exit.the-variants.{Stay, Leave}
+use Rattle.rules.specs.declared.exit.Exit.the-variants.{Stay}
 use Rattle.rules.proofs.Places.{set-here, set-other}
 use Rattle.rules.proofs.Nodes.{lowest-state, lowest-node, component-is, own-component, node-number}
 use Rattle.rules.proofs.Sides.{Side, lower-side, upper-side}

@@ -10,8 +10,8 @@ use Rattle.components.specs.Nodes.{nodes, nodeOf, components, statesOf}
 use Rattle.rules.specs.Choosing.{at, atZ}
 use Rattle.rules.specs.Setting.{Setting, bottom, top}
 use Rattle.rules.specs.Book.{Book, exitAt, start}
-use Rattle.rules.specs.Refine.{step}
-use Rattle.rules.specs.Sweep.{update}
+use Rattle.rules.specs.Refine.{step, refine}
+use Rattle.rules.specs.Sweep.{update, sweep, sweeps}
 use Rattle.rules.specs.declared.exit.Exit.{Exit}
 use Rattle.rules.specs.declared.exit.Exit.the-variants.{Stay, Leave}
 
@@ -57,11 +57,14 @@ pub record Fit (M : Setting) (B : Book) : Type 0 where
   pub y : Within M (nodes (M .table)) (atZ (B .y))
   pub plan : PlanFits M (exitAt (B .plan))
 
--- the start fits, and each part of a call keeps that, whatever else holds of the book
+-- the start fits, and each step, update, refine and sweep keeps that, whatever else holds of the book
 pub record FitKept (M : Setting) : Type 0 where
   pub starts : Fit M (start M)
   pub steps : (k : ℕ) → k < components (M .table) → (B : Book) → Fit M B → Fit M (step M k B)
   pub updates : (v : ℕ) (B : Book) → Fit M B → Fit M (update M v B)
+  pub refines : (k n width : ℕ) → k < components (M .table) → (B : Book) → Fit M B → Fit M (refine M k n width B .book)
+  pub sweep : (B : Book) → Fit M B → Fit M (sweep M B)
+  pub sweeps : (n : ℕ) (B : Book) → Fit M B → Fit M (sweeps M n B .book)
 
 abbrev pub EveryFit : Type 0
 EveryFit = (M : Setting) → Lawful (M .table) → FitKept M

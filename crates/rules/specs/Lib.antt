@@ -10,3 +10,5 @@ pub mod Fit
 pub mod Sound
 pub mod Runs
 pub mod Promises
+pub mod Meaning
+pub mod Worked

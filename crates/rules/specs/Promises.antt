@@ -3,7 +3,6 @@ use mathlib.Core.List.{List, _∷_}
 use Prim.Native.Nat.{ℕ, _^_, _<_}
 use lib.IntN.{ℤ, pos, _+ℤ_, _-ℤ_, _*ℤ_}
 use lib.Signed.{_≤ℤ_}
-use Rattle.table.specs.Table.{Table}
 use Rattle.table.specs.Limits.{Lawful}
 use Rattle.horizon.specs.Strategies.{Strategy, StatesOnly, Names, PlanNames, follow, scaledReward}
 use Rattle.horizon.specs.Potential.{constant}
@@ -11,7 +10,10 @@ use Rattle.components.specs.Nodes.{nodeOf, components}
 use Rattle.rules.specs.Choosing.{atZ}
 use Rattle.rules.specs.Setting.{Setting, leastReward, largestReward}
 use Rattle.rules.specs.Book.{Book, start}
+use Rattle.rules.specs.Refine.{refine}
+use Rattle.rules.specs.Sweep.{sweeps}
 use Rattle.rules.specs.Play.{play}
+use Rattle.rules.specs.Sound.{Sound}
 use Rattle.rules.specs.Runs.{Change, refines, sweeping, changed, after}
 
 -- U and L of a state: those of its node
@@ -59,3 +61,17 @@ pub record Promises (M : Setting) : Type 0 where
 -- for every lawful table and every scale
 abbrev pub EveryBook : Type 0
 EveryBook = (M : Setting) → Lawful (M .table) → Promises M
+
+-- one step of any longer history: a sound book keeps its bounds, and what is done with it leaves a sound book
+pub record SoundKept (M : Setting) : Type 0 where
+  pub starts : Sound M (start M)
+  pub refined : (k n width : ℕ) → k < components (M .table) → (B : Book) → Sound M B → Sound M (refine M k n width B .book)
+  pub swept : (n : ℕ) (B : Book) → Sound M B → Sound M (sweeps M n B .book)
+  pub changes : (c : Change) (B : Book) → Sound M B → Sound M (changed M c B)
+  pub upper : (B : Book) → Sound M B → UpperHolds M B
+  pub lower : (B : Book) → Sound M B → LowerHolds M B
+  pub refining : (k n width : ℕ) → k < components (M .table) → (B : Book) → Sound M B → Tighter M B (refine M k n width B .book)
+  pub sweeping : (n : ℕ) (B : Book) → Sound M B → Tighter M B (sweeps M n B .book)
+
+abbrev pub EverySound : Type 0
+EverySound = (M : Setting) → Lawful (M .table) → SoundKept M

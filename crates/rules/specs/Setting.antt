@@ -13,8 +13,14 @@ pub record Setting : Type 0 where
   pub cap : ℕ
 
 -- the scales in use: F = 2^20 and H = 2^46
+abbrev pub scaleInUse : ℕ
+scaleInUse = 1048576
+
+abbrev pub capInUse : ℕ
+capInUse = 70368744177664
+
 abbrev pub settingOf : Table → Setting
-settingOf T = record { table = T; scale = 1048576; cap = 70368744177664 }
+settingOf T = record { table = T; scale = scaleInUse; cap = capInUse }
 
 -- rmin and rmax: the least and the largest reward of the table
 unfoldable pub leastReward : Table → ℤ
