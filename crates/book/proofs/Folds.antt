@@ -1,10 +1,9 @@
--- Sums, tests and folds in general.
+-- Tests and folds in general.
 use mathlib.Core.Path.{_≡_, refl, ap, _∙_}
 use mathlib.Core.Bool.{Bool, true, false, cond, _&&_}
 use mathlib.Core.List.{List, [], _∷_, _++_}
 use Prim.Native.Nat.{ℕ, zero, suc, _+_, _<_}
 use native.Mathlib.Omega.{arith}
-use lib.IntN.{ℤ, _+ℤ_}
 use lib.ListN.{length, getD}
 use Rattle.std.specs.Iters.{counting}
 use Rattle.std.specs.shelf.Lists.{folded, kept-by, All}
@@ -12,24 +11,7 @@ use Rattle.std.proofs.shelf.Lists.{append-nil}
 use Rattle.std.proofs.shelf.Sums.{folded-push}
 use Rattle.std.proofs.shelf.Elements.{kept-by-append, all-kept-by, all-from-getD, all-getD}
 use Rattle.std.proofs.shelf.Counted.{length-counting, getD-counting}
-use Rattle.table.specs.Sums.{sumN}
-use Rattle.horizon.specs.Sums.{sumZ}
 use Rattle.components.specs.Below.{every}
-
--- sums of equal terms
-pub sumN-same : (k : ℕ) (f g : ℕ → ℕ) → ((b : ℕ) → b < k → f b ≡ g b) → sumN k f ≡ sumN k g
-sumN-same zero f g h = refl
-sumN-same (suc k) f g h =
-    let ih = sumN-same k f g (λ b l. h b (omega arith)) in
-    let e = h k (omega arith) in
-    omega arith
-
-pub sumZ-same : (k : ℕ) (f g : ℕ → ℤ) → ((b : ℕ) → b < k → f b ≡ g b) → sumZ k f ≡ sumZ k g
-sumZ-same zero f g h = refl
-sumZ-same (suc k) f g h =
-    let ih = sumZ-same k f g (λ b l. h b (omega arith)) in
-    let e = h k (omega arith) in
-    ap (λ (z : ℤ). z +ℤ f k) ih ∙ ap (λ (z : ℤ). sumZ k g +ℤ z) e
 
 -- equal tests pass alike
 pub every-same : (n : ℕ) (p q : ℕ → Bool) → ((i : ℕ) → i < n → p i ≡ q i) → every n p ≡ every n q

@@ -15,7 +15,8 @@ use Rattle.rules.specs.Sweep.{overChoices}
 use Rattle.book.specs.declared.frame.Frame.{Frame}
 use Rattle.book.specs.Frames.{tableOf}
 use Rattle.book.proofs.Exits.{inside-more, leaving-more}
-use Rattle.book.proofs.FrameRows.{choices-here, branches-here, inside-here, place-here, weights-here, sum-here}
+use Rattle.book.proofs.Frames.{count-is, branches-are, branches-within}
+use Rattle.book.proofs.Links.{inside-here, place-here, weights-here, sum-here}
 use Rattle.book.proofs.leaving.best_choice.Needs as need
 use Rattle.book.proofs.leaving.best_choice.Needs.{then-not-frame-place, else-not-frame-place}
 
@@ -25,14 +26,15 @@ total-sum-requires g c κs =
     let F = c .pre .framed in
     let s : ℕ = c .args .state in
     let i : ℕ = c .loop-choice .choice in
-    let n = choices-here f F s (c .pre .state) in
+    let n = count-is f F s (c .pre .state) in
     let k : i < tableOf f .choices s = omega arith in
-    let w = branches-here f F s i (c .pre .state) k in
+    let size = branches-are f F s (c .pre .state) i k in
+    let w = branches-within f F s (c .pre .state) i k in
     let links = F .link-size in
     record {
       within = omega arith;
       inside = λ b l.
-          let p = place-here f F s i b (c .pre .state) k (omega arith) in
+          let p = place-here f F s i (c .pre .state) k b (omega arith) in
           let e = c .pre .values in
           omega arith;
       light = weights-here f F s i (c .pre .state) k;
@@ -46,7 +48,7 @@ loop-choice-again g c =
     let F = c .pre .framed in
     let s : ℕ = c .args .state in
     let i : ℕ = c .loop-choice .choice in
-    let n = choices-here f F s (c .pre .state) in
+    let n = count-is f F s (c .pre .state) in
     let k : i < tableOf f .choices s = omega arith in
     let M = settingOf (tableOf f) in
     let rounds : ℤ → ℕ → ℤ = g .S·Side .rounds in
@@ -71,7 +73,7 @@ loop-choice-again g c =
 pub returns : need.returns
 returns g c =
     let f : Frame = c .args .frame .now in
-    let n = choices-here f (c .pre .framed) (c .args .state) (c .pre .state) in
+    let n = count-is f (c .pre .framed) (c .args .state) (c .pre .state) in
     let e : c .loop-choice .choice ≡ tableOf f .choices (c .args .state) = omega arith in
     c .loop-choice .inv
     ∙ ap (λ (k : ℕ). overChoices (settingOf (tableOf f)) (meanOf (settingOf (tableOf f)) (g .S·Side .rounds) (c .args .values .now)) (c .args .state) k (c .args .best)) e
