@@ -5,6 +5,7 @@ mod frame;
 mod gain;
 mod leaving;
 mod mean;
+mod play;
 mod sweep;
 
 pub use book::Book;

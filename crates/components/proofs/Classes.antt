@@ -126,9 +126,6 @@ module _ (T : Table) (law : Lawful T) (A : Choices) (G : Greatest T A) where
           let w = and-parts (R x) (A x d) a in
           l .1 x d q (and-from (K x) (A x d) (end-inside (class-of s acts) e r x (q .state) (w .0)) (w .1))
 
-  pub class-acts : {R : States} → Class T A R → (s : ℕ) → s < T .states → R s ≡ true → Acts T A s
-  class-acts k s h e = acts-before (k .acts) (back (G .reversible) (k .reached s h .0 e))
-
   -- a choice with all successors in the class of its state can be added
   added : ℕ → ℕ → Choices
   added s c x d = A x d || (eqb x s && eqb d c)

@@ -1,22 +1,19 @@
 -- The components are the maximal end components, and the inside choices are theirs.
-use mathlib.Core.Path.{_≡_, refl, sym, _∙_, subst}
-use mathlib.Core.Bool.{true, false, _&&_}
-use mathlib.Core.Logic.{⊎-elim, _↔_}
-use Prim.Native.Nat.{ℕ, _<_, _≤_}
-use native.Mathlib.Omega.{arith}
+use mathlib.Core.Path.{_≡_, refl, sym, _∙_}
+use mathlib.Core.Bool.{true}
+use mathlib.Core.Logic.{_↔_}
+use Prim.Native.Nat.{ℕ, _<_}
 use lib.Dec.{eqb}
-use Rattle.std.proofs.shelf.Tests.{cases-bool, and-parts, and-from, both-ways, eq-eqb, eqb-true}
-use Rattle.table.specs.Table.{Table, successor}
+use Rattle.std.proofs.shelf.Tests.{and-parts, and-from, eq-eqb, eqb-true}
+use Rattle.table.specs.Table.{Table}
 use Rattle.table.specs.Limits.{Lawful}
-use Rattle.components.specs.Below.{count}
-use Rattle.components.specs.EndComponent.{States, Choices, Choice, Reaches, stays, EndComponent, Maximal}
-use Rattle.components.specs.Inside.{reach, inside}
+use Rattle.components.specs.EndComponent.{States, Choices, Choice, Reaches, stays, Maximal}
+use Rattle.components.specs.Inside.{inside}
 use Rattle.components.specs.Nodes.{inComponent, lowest, heads, components, componentOf, statesOf, choicesOf}
 use Rattle.components.specs.Law.{SameStates, SameChoices, Lowest, ComponentLaw, InsideLaw}
-use Rattle.components.proofs.Reach.{within, once, reach-sound, reach-all, bounded}
-use Rattle.components.proofs.Reversible.{Acts}
-use Rattle.components.proofs.Classes.{Class, class-joined, class-closed, class-maximal, class-acts, only-classes, choice-in}
-use Rattle.components.proofs.Numbering.{acts-of, of-acts, G, lowest-same, same-reach, Numbers, num-same, num-keep, num-bound, num-lowest, num-rising, component-numbers}
+use Rattle.components.proofs.Reach.{reach-sound, reach-all}
+use Rattle.components.proofs.Classes.{Class, class-closed, class-maximal, only-classes, choice-in}
+use Rattle.components.proofs.Numbering.{acts-of, of-acts, G, lowest-same, same-reach, num-same, num-keep, num-bound, num-lowest, num-rising, component-numbers}
 
 module _ (T : Table) (law : Lawful T) where
   -- the component of a state that is in one

@@ -1,5 +1,5 @@
 -- Every node has a depth.
-use mathlib.Core.Path.{_≡_, refl, sym, _∙_, ap}
+use mathlib.Core.Path.{_≡_, refl, _∙_, ap}
 use mathlib.Core.Bool.{Bool, true, false, not, _&&_, _||_}
 use mathlib.Core.Logic.{_⊎_, inl, inr, ⊎-elim}
 use Prim.Native.Nat.{ℕ, zero, suc, _<_, _≤_}
@@ -8,17 +8,17 @@ use lib.Dec.{eqb}
 use Rattle.std.proofs.shelf.Tests.{and-parts, and-cases, or-cases, or-parts, cases-bool, cases-eq, both-ways, not-true, not-false, not-from-true, not-from-false, eq-eqb, eqb-true}
 use Rattle.table.specs.Table.{Table, successor}
 use Rattle.table.specs.Limits.{Lawful}
-use Rattle.components.specs.Below.{every, any, count, first}
+use Rattle.components.specs.Below.{every, any, count}
 use Rattle.components.specs.EndComponent.{States, Reaches}
 use Rattle.components.specs.Inside.{inside}
 use Rattle.components.specs.Nodes.{isLowest, nodes, nodeOf, statesOfNode}
-use Rattle.components.specs.Depth.{Leaving, Falls, IsDepth, depthBelow, depth}
+use Rattle.components.specs.Depth.{Leaving, Falls, depthBelow, depth}
 use Rattle.components.specs.Law.{Lowest, DepthLaw}
 use Rattle.components.proofs.Below.{every-at, every-fails, any-some, any-none, first-le, first-at, count-lt, count-most}
 use Rattle.components.proofs.Settles.{settles}
 use Rattle.components.proofs.Reach.{within, bounded}
 use Rattle.components.proofs.Numbering.{G}
-use Rattle.components.proofs.Nodes.{own-node, node-bound, node-reached, node-law}
+use Rattle.components.proofs.Nodes.{own-node, node-reached, node-law}
 use Rattle.components.proofs.Trap.{Stays, trap}
 
 -- The test for one more layer of nodes

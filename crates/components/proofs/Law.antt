@@ -1,14 +1,11 @@
 -- The law of every lawful table, put together.
-use mathlib.Core.Path.{_≡_}
-use mathlib.Core.Bool.{true, _&&_}
-use Prim.Native.Nat.{ℕ, _<_, _≤_}
+use mathlib.Core.Bool.{_&&_}
+use Prim.Native.Nat.{ℕ, _≤_}
 use native.Mathlib.Omega.{arith}
 use Rattle.std.proofs.shelf.Tests.{and-parts}
 use Rattle.table.specs.Table.{Table}
-use Rattle.table.specs.Limits.{Lawful}
-use Rattle.components.specs.Below.{count}
 use Rattle.components.specs.Nodes.{inComponent, isLowest, heads, nodes, components}
-use Rattle.components.specs.Law.{ComponentsLaw, EveryLawfulTable, NodesWithin}
+use Rattle.components.specs.Law.{EveryLawfulTable, NodesWithin}
 use Rattle.components.proofs.Below.{count-le, count-most}
 use Rattle.components.proofs.Components.{component-law, inside-law}
 use Rattle.components.proofs.Nodes.{node-law}

@@ -9,3 +9,4 @@ pub mod Nodes
 pub mod Trap
 pub mod Depth
 pub mod Law
+pub mod Labels

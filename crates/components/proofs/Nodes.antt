@@ -1,26 +1,24 @@
 -- The nodes are the components and the lone states.
-use mathlib.Core.Path.{_≡_, refl, sym, _∙_}
-use mathlib.Core.Bool.{true, false, cond, _&&_}
+use mathlib.Core.Path.{_≡_, refl, sym}
+use mathlib.Core.Bool.{true, false}
 use mathlib.Core.Logic.{⊎-elim, _↔_}
-use Prim.Native.Nat.{ℕ, _<_, _≤_}
+use Prim.Native.Nat.{ℕ, _<_}
 use native.Mathlib.Omega.{arith}
-use lib.Dec.{eqb}
 use Rattle.std.specs.Options.{Cases}
 use Rattle.std.specs.declared.option.Option.{Option}
 use Rattle.std.specs.declared.option.Option.the-variants.{Some, None}
-use Rattle.std.proofs.shelf.Tests.{cases-bool, both-ways, eq-eqb, eqb-true, cond-both}
+use Rattle.std.proofs.shelf.Tests.{cases-bool, both-ways, eq-eqb, cond-both}
 use Rattle.table.specs.Table.{Table}
 use Rattle.table.specs.Limits.{Lawful}
-use Rattle.components.specs.Below.{first}
-use Rattle.components.specs.EndComponent.{States, Choices, Reaches, EndComponent, Maximal}
-use Rattle.components.specs.Inside.{reach, inside}
+use Rattle.components.specs.EndComponent.{States, Choices, Reaches, EndComponent}
+use Rattle.components.specs.Inside.{inside}
 use Rattle.components.specs.Nodes.{inComponent, lowest, isLowest, nodes, nodeOf, components, componentOf, statesOfNode, statesOf, lowestOf, componentAt}
 use Rattle.components.specs.Law.{SameStates, Lowest, Lone, Node, component, lone, NodeLaw}
 use Rattle.components.proofs.Below.{first-le, first-at}
 use Rattle.components.proofs.Reach.{reach-sound, reach-all}
 use Rattle.components.proofs.Reversible.{moves, Acts, acts-more}
-use Rattle.components.proofs.Classes.{Class, class-maximal, only-classes, end-acts, end-within, ofStates}
-use Rattle.components.proofs.Numbering.{acts-of, of-acts, G, lowest-same, same-reach, in-same, num-same, num-keep, num-bound, num-lowest, num-rising, node-numbers, component-numbers}
+use Rattle.components.proofs.Classes.{class-maximal, only-classes, end-acts, end-within, ofStates}
+use Rattle.components.proofs.Numbering.{acts-of, of-acts, G, lowest-same, same-reach, in-same, num-same, num-keep, num-bound, num-lowest, num-rising, node-numbers}
 use Rattle.components.proofs.Components.{own, component-bound, component-reached, component-law}
 
 module _ (T : Table) (law : Lawful T) where

@@ -1,6 +1,6 @@
 -- Nodes by their lowest states, and sets of states that are numbered by rising lowest state.
-use mathlib.Core.Path.{_≡_, refl, sym, _∙_, ap}
-use mathlib.Core.Bool.{Bool, true, false, _&&_}
+use mathlib.Core.Path.{_≡_, sym, _∙_}
+use mathlib.Core.Bool.{Bool, true, false}
 use mathlib.Core.Logic.{⊎-elim, _↔_}
 use Prim.Native.Nat.{ℕ, _<_, _≤_}
 use native.Mathlib.Omega.{arith}
@@ -8,10 +8,10 @@ use lib.Dec.{eqb}
 use Rattle.std.proofs.shelf.Tests.{cases-bool, cases-lt, and-parts, and-from, both-ways, eq-eqb, eqb-true}
 use Rattle.table.specs.Table.{Table}
 use Rattle.table.specs.Limits.{Lawful}
-use Rattle.components.specs.Below.{any, count, first}
-use Rattle.components.specs.EndComponent.{States, Choice, Reaches, stays}
+use Rattle.components.specs.Below.{count, first}
+use Rattle.components.specs.EndComponent.{States, stays}
 use Rattle.components.specs.Inside.{reach, inside}
-use Rattle.components.specs.Nodes.{inComponent, lowest, isLowest, heads, nodes, nodeOf, components, componentOf, statesOfNode, statesOf}
+use Rattle.components.specs.Nodes.{inComponent, lowest, isLowest, heads, nodeOf, componentOf, statesOfNode, statesOf}
 use Rattle.components.specs.Law.{Lowest}
 use Rattle.components.proofs.Below.{any-some, any-from, first-le, first-at, count-past, count-order, count-same, count-onto}
 use Rattle.components.proofs.Reach.{trans, reach-sound, reach-in, reach-all}

@@ -1,14 +1,14 @@
 -- Reachability by a set of choices, and that Warshall's rule decides it.
-use mathlib.Core.Path.{_≡_, refl, sym, subst}
-use mathlib.Core.Bool.{Bool, true, _&&_, _||_}
-use mathlib.Core.Logic.{_⊎_, inl, inr, ⊎-elim, _↔_}
-use Prim.Native.Nat.{ℕ, zero, suc, _<_, _≤_}
+use mathlib.Core.Path.{_≡_, refl, subst}
+use mathlib.Core.Bool.{true, _&&_, _||_}
+use mathlib.Core.Logic.{⊎-elim, _↔_}
+use Prim.Native.Nat.{ℕ, zero, suc, _<_}
 use native.Mathlib.Omega.{arith}
 use lib.Dec.{eqb}
 use Rattle.std.proofs.shelf.Tests.{cases-eq, and-parts, and-from, or-cases, or-left, or-right, eq-eqb, eqb-true}
 use Rattle.table.specs.Table.{Table, successor}
 use Rattle.table.specs.Limits.{Lawful}
-use Rattle.components.specs.Below.{any, grid}
+use Rattle.components.specs.Below.{any}
 use Rattle.components.specs.EndComponent.{Choices, Choice, Reaches, stays, steps, ChoicesWithin}
 use Rattle.components.specs.Inside.{leads, via, reach}
 use Rattle.components.proofs.Below.{any-some, any-from, grid-from, grid-true}

@@ -1,14 +1,14 @@
 -- The greatest reversible set of choices: from each successor of a choice of it, its state is reached again by it.
-use mathlib.Core.Path.{_≡_, refl, sym, subst}
+use mathlib.Core.Path.{_≡_, refl, sym, subst, _∙_}
 use mathlib.Core.Bool.{true, false, _&&_}
 use mathlib.Core.Logic.{_⊎_, inl, inr, ⊎-elim, _↔_}
 use Prim.Native.Nat.{ℕ, zero, suc, _<_, _≤_}
 use native.Mathlib.Omega.{arith}
-use Rattle.std.proofs.shelf.Tests.{and-parts, and-from, cases-lt, cases-bool}
+use Rattle.std.proofs.shelf.Tests.{and-parts, and-from, cases-lt, cases-bool, both-ways}
 use Rattle.table.specs.Sums.{sumN}
 use Rattle.table.specs.Table.{Table, successor}
 use Rattle.table.specs.Limits.{Lawful}
-use Rattle.components.specs.Below.{every, count, grid}
+use Rattle.components.specs.Below.{every, count}
 use Rattle.components.specs.EndComponent.{Choices, Choice, Reaches, stays, steps, ChoicesWithin}
 use Rattle.components.specs.Inside.{reach, pass, passes, inside}
 use Rattle.components.proofs.Below.{every-at, every-from, sum-le, sum-lt, count-le, count-lt, count-most, grid-true, grid-from}
@@ -162,3 +162,16 @@ module _ (T : Table) (law : Lawful T) where
       let n = sumN (T .states) (T .choices) in
       settled-greatest (keeps n) (bound n)
       (settles (λ k. chosen T (passes T k)) Settled turn still n (chosen-most T (passes T 0)))
+
+  -- a set that a pass does not change is that of the inside choices
+  pub settled-inside : (k : ℕ) → ChoicesWithin T (passes T k) (passes T (suc k)) → (s c : ℕ) → Choice T s c → passes T k s c ≡ inside T s c
+  settled-inside k w s c p =
+      let g = settled-greatest (keeps k) (bound k) w in
+      ⊎-elim
+      (λ (e : inside T s c ≡ true). greatest-same inside-greatest g s c p e ∙ sym e)
+      (λ (e : inside T s c ≡ false).
+      ⊎-elim
+      (λ (f : passes T k s c ≡ true). absurd (both-ways (inside T s c) e (greatest-same g inside-greatest s c p f)))
+      (λ (f : passes T k s c ≡ false). f ∙ sym e)
+      (cases-bool (passes T k s c)))
+      (cases-bool (inside T s c))

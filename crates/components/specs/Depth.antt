@@ -7,7 +7,7 @@ use Rattle.table.specs.Table.{Table, successor}
 use Rattle.components.specs.Below.{every, any, first}
 use Rattle.components.specs.EndComponent.{Choice}
 use Rattle.components.specs.Inside.{inside}
-use Rattle.components.specs.Nodes.{nodes, nodeOf}
+use Rattle.components.specs.Nodes.{nodeOf}
 
 -- the choice c of the state s leaves the node v
 pub record Leaving (T : Table) (v s c : ℕ) : Type 0 where

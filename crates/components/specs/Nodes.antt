@@ -1,8 +1,8 @@
 -- Components and nodes, as they compute. The node of a state is what it reaches by inside choices:
 -- its component, or the state alone. Both are numbered by rising lowest state.
-use mathlib.Core.Bool.{Bool, true, cond, _&&_}
+use mathlib.Core.Bool.{cond, _&&_}
 use Prim.Native.Nat.{ℕ}
-use lib.Dec.{eqb, ltb}
+use lib.Dec.{eqb}
 use Rattle.std.specs.declared.option.Option.{Option}
 use Rattle.std.specs.declared.option.Option.the-variants.{Some, None}
 use Rattle.table.specs.Table.{Table}

@@ -1,0 +1,5 @@
+pub mod Words
+pub mod Marked
+pub mod Drops
+pub mod Numbers
+pub mod Decomposing
