@@ -3,7 +3,9 @@ mod best;
 mod book;
 mod frame;
 mod gain;
+mod leaving;
 mod mean;
 mod play;
+mod sweep;
 
 pub use book::Book;
