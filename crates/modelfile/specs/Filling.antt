@@ -6,7 +6,11 @@ use Rattle.std.specs.Options.{valueOr}
 use Rattle.sources.specs.declared.list.StateRow.{StateRow}
 use Rattle.sources.specs.declared.list.ChoiceRow.{ChoiceRow}
 use Rattle.modelfile.specs.Records.{Fields, ofHeader, ofState, ofChoice}
-use Rattle.modelfile.specs.Lists.{rewardOf, branchesOf, stateRow, choiceRow}
+use Rattle.std.specs.declared.result.Result.{Result}
+use Rattle.std.specs.declared.result.Result.the-variants.{Ok, Err}
+use Rattle.modelfile.specs.File.{Model}
+use Rattle.modelfile.specs.Lists.{rewardOf, branchesOf, stateRow, choiceRow, loadedOf, modelStates, modelChoices, modelBranches}
+use Rattle.modelfile.specs.declared.fault.FileFault.{FileFault}
 use Rattle.modelfile.specs.declared.loaded.Loaded.{Loaded}
 
 -- rows put into a list from a place on, as far as the list reaches
@@ -48,3 +52,24 @@ abbrev pub withBranches : Loaded → Fields → List (ℕ × ℕ) → List (ℕ 
 withBranches t (ofHeader h) list = list
 withBranches t (ofState k) list = list
 withBranches t (ofChoice c) list = fill (branchesOf (t .denominator) (t .states - 1) c) (t .branches) list
+
+-- the counts and the three lists
+pub record Tally : Type 0 where
+  pub counts : Loaded
+  pub states : List StateRow
+  pub choices : List ChoiceRow
+  pub branches : List (ℕ × ℕ)
+
+abbrev pub tally : Loaded → List StateRow → List ChoiceRow → List (ℕ × ℕ) → Tally
+tally counts states choices branches = record { counts = counts; states = states; choices = choices; branches = branches }
+
+-- lists filled with what a file says, as far as they reach
+abbrev pub filled : Result Model FileFault → List StateRow → List ChoiceRow → List (ℕ × ℕ) → Result Tally FileFault
+filled (Ok m) states choices branches =
+    Ok (tally (loadedOf m) (fill (modelStates m) 0 states) (fill (modelChoices m) 0 choices) (fill (modelBranches m) 0 branches))
+filled (Err e) states choices branches = Err e
+
+-- what a call answered, with the lists after it
+abbrev pub tallied : Result Loaded FileFault → List StateRow → List ChoiceRow → List (ℕ × ℕ) → Result Tally FileFault
+tallied (Ok t) states choices branches = Ok (tally t states choices branches)
+tallied (Err e) states choices branches = Err e

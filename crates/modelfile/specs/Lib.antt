@@ -4,5 +4,6 @@ pub mod Bytes
 pub mod Records
 pub mod File
 pub mod Steps
+pub mod Written
 pub mod Lists
 pub mod Filling

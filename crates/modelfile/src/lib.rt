@@ -2,6 +2,7 @@
 mod bytes;
 mod fault;
 mod fill;
+mod lists;
 mod loaded;
 mod next;
 mod parse;
@@ -22,6 +23,7 @@ pub use fault::RecordFault;
 pub use fault::RecordFaultDebug;
 pub use fault::RecordFaultPartialEq;
 pub use fault::RecordFromByte;
+pub use lists::load;
 pub use loaded::Loaded;
 pub use loaded::LoadedDebug;
 pub use loaded::LoadedPartialEq;
