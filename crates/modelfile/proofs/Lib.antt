@@ -4,5 +4,9 @@ pub mod Inverse
 pub mod Walk
 pub mod WalkEnds
 pub mod Loads
+pub mod FileLaws
+pub mod Tables
 pub mod Accepted
 pub mod AcceptedFile
+pub mod Restored
+pub mod RestoredFile

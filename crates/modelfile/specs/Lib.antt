@@ -7,3 +7,5 @@ pub mod Steps
 pub mod Written
 pub mod Lists
 pub mod Filling
+pub mod Described
+pub mod Law

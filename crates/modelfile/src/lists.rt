@@ -4,6 +4,7 @@ ghost use lib.Dec.{leb};
 ghost use lib.ListN.{length};
 ghost use Rattle.modelfile.specs.File.{readFile};
 ghost use Rattle.modelfile.specs.Lists.{outcome, answered, afterCall, modelStates, modelChoices, modelBranches};
+ghost use Rattle.modelfile.specs.Law.{FileLaw};
 ghost use Rattle.modelfile.specs.Filling.{filled, tallied};
 use crate::fault::FileFault;
 use crate::fill::place;
@@ -55,6 +56,7 @@ pub fn load(
     ensures states { λ _. ⌜ now (states .exit) ≡ afterCall (outcome (now (file .entry)) (length (now (states .entry))) (length (now (choices .entry))) (length (now (branches .entry)))) modelStates (now (states .entry)) ⌝ }
     ensures choices { λ _. ⌜ now (choices .exit) ≡ afterCall (outcome (now (file .entry)) (length (now (states .entry))) (length (now (choices .entry))) (length (now (branches .entry)))) modelChoices (now (choices .entry)) ⌝ }
     ensures branches { λ _. ⌜ now (branches .exit) ≡ afterCall (outcome (now (file .entry)) (length (now (states .entry))) (length (now (choices .entry))) (length (now (branches .entry)))) modelBranches (now (branches .entry)) ⌝ }
+    ensures law { λ _. ⌜ FileLaw (now (file .entry)) ⌝ }
 {
     let need = walk(file, &mut [], &mut [], &mut [])?;
     if !fits(&need, states.len(), choices.len(), branches.len()) {

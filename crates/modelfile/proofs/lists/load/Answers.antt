@@ -14,6 +14,7 @@ use Rattle.modelfile.specs.declared.fault.FileFault.{FileFault}
 use Rattle.modelfile.specs.declared.fault.FileFault.the-variants.{ShortList}
 use Rattle.modelfile.specs.declared.loaded.Loaded.{Loaded}
 use Rattle.modelfile.proofs.Loads.{fill-front, filled-err, filled-ok, tallied-ok, outcome-err, outcome-short, outcome-ok, roomy, room}
+use Rattle.modelfile.proofs.FileLaws.{file-law}
 use Rattle.modelfile.proofs.lists.load.Needs as need
 
 pub returns-in-Break-need : need.returns-in-Break-need
@@ -28,6 +29,7 @@ returns-in-Break-need c =
       states = sym (ap (λ (o : Result Model FileFault). afterCall o modelStates (c .args .states .now)) out);
       choices = sym (ap (λ (o : Result Model FileFault). afterCall o modelChoices (c .args .choices .now)) out);
       branches = sym (ap (λ (o : Result Model FileFault). afterCall o modelBranches (c .args .branches .now)) out);
+      law = file-law file (λ i. c .typed .file i .fits);
     }
 
 pub returns-then-not-fits : need.returns-then-not-fits
@@ -45,6 +47,7 @@ returns-then-not-fits c =
       states = sym (ap (λ (o : Result Model FileFault). afterCall o modelStates (c .args .states .now)) out);
       choices = sym (ap (λ (o : Result Model FileFault). afterCall o modelChoices (c .args .choices .now)) out);
       branches = sym (ap (λ (o : Result Model FileFault). afterCall o modelBranches (c .args .branches .now)) out);
+      law = file-law file (λ i. c .typed .file i .fits);
     }
 
 pub returns : need.returns
@@ -66,4 +69,5 @@ returns c =
       states = all .1 ∙ fill-front (modelStates m) S (has .0) ∙ sym (ap (λ (o : Result Model FileFault). afterCall o modelStates S) out);
       choices = all .2 ∙ fill-front (modelChoices m) C (has .1) ∙ sym (ap (λ (o : Result Model FileFault). afterCall o modelChoices C) out);
       branches = all .3 ∙ fill-front (modelBranches m) B (has .2) ∙ sym (ap (λ (o : Result Model FileFault). afterCall o modelBranches B) out);
+      law = file-law file (λ i. c .typed .file i .fits);
     }
