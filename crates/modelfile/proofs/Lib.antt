@@ -1,0 +1,13 @@
+pub mod Fields
+pub mod Fills
+pub mod Inverse
+pub mod Walk
+pub mod WalkEnds
+pub mod Loads
+pub mod FileLaws
+pub mod Tables
+pub mod Refused
+pub mod Accepted
+pub mod AcceptedFile
+pub mod Restored
+pub mod RestoredFile

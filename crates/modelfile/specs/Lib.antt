@@ -1,0 +1,11 @@
+pub mod Faults
+pub mod Results
+pub mod Bytes
+pub mod Records
+pub mod File
+pub mod Steps
+pub mod Written
+pub mod Lists
+pub mod Filling
+pub mod Described
+pub mod Law

@@ -1,0 +1,34 @@
+// The model file: from its bytes to the three lists that a list source reads.
+mod bytes;
+mod fault;
+mod fill;
+mod lists;
+mod loaded;
+mod next;
+mod parse;
+mod reader;
+mod record;
+
+pub use fault::ByteFault;
+pub use fault::ByteFaultDebug;
+pub use fault::ByteFaultPartialEq;
+pub use fault::FileFault;
+pub use fault::FileFaultDebug;
+pub use fault::FileFaultPartialEq;
+pub use fault::FileFromRecord;
+pub use fault::FileNotice;
+pub use fault::FileNoticeDebug;
+pub use fault::FileNoticePartialEq;
+pub use fault::RecordFault;
+pub use fault::RecordFaultDebug;
+pub use fault::RecordFaultPartialEq;
+pub use fault::RecordFromByte;
+pub use lists::load;
+pub use loaded::Loaded;
+pub use loaded::LoadedDebug;
+pub use loaded::LoadedPartialEq;
+pub use reader::Reader;
+pub use record::Choice;
+pub use record::Header;
+pub use record::Record;
+pub use record::State;
