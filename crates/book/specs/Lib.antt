@@ -3,3 +3,4 @@ pub mod Frames
 pub mod Books
 pub mod Inside
 pub mod Plays
+pub mod Starts

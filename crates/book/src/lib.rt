@@ -5,5 +5,6 @@ mod frame;
 mod gain;
 mod mean;
 mod play;
+mod start;
 
 pub use book::Book;
