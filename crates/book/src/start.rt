@@ -1,5 +1,5 @@
 ghost use mathlib.Core.Path.{_≡_};
-ghost use Prim.Native.Nat.{ℕ, _<_};
+ghost use Prim.Native.Nat.{_<_};
 ghost use lib.ListN.{length};
 ghost use Rattle.std.specs.Results.{Cases};
 ghost use Rattle.components.specs.Nodes.{nodes};
@@ -34,7 +34,7 @@ pub(crate) fn extremes(frame: &Frame) -> (i32, i32)
     (least, largest)
 }
 
-// The bounds that no choice can leave: F times the least and the largest reward.
+// The widest bounds: F times the least and the largest reward.
 fn widest(frame: &Frame) -> (i64, i64)
     requires { ⌜ Framed (now frame) ⌝ }
     ensures bottom { λ r. ⌜ r .0 ≡ bottom (settingOf (tableOf (now (frame .entry)))) ⌝ }
