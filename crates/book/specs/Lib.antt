@@ -4,3 +4,4 @@ pub mod Books
 pub mod Inside
 pub mod Plays
 pub mod Sweeps
+pub mod Starts
