@@ -4,5 +4,6 @@ mod book;
 mod frame;
 mod gain;
 mod mean;
+mod refine;
 
 pub use book::Book;
