@@ -49,6 +49,30 @@ module _ (T : Table) (L : Lawful T) (t : ℕ → ℕ) (capped : (s : ℕ) → s 
       let w = d .1 in
       (omega (arith, lin), omega (arith, lin))
 
+-- so are the least and the largest of them
+module _ (T : Table) (L : Lawful T) (t : ℕ → ℕ) (capped : (s : ℕ) → s < T .states → t s ≤ 2 ^ 46) (k : ℕ) (known : k < components T) where
+  pub least-within : (negℤ (pos (2 ^ 50)) ≤ℤ smallest (T .states) (statesOf T k) (halfway (settingOf T) t))
+      × (smallest (T .states) (statesOf T k) (halfway (settingOf T) t) ≤ℤ pos (2 ^ 50))
+  least-within =
+      let o = some-state T L k known in
+      let x = smallest-reached (T .states) (statesOf T k) (halfway (settingOf T) t) (o .0) (o .1) (o .2) in
+      let b = halfway-within T L t capped (x .0) (x .1) (of-component T L k (x .0) (x .2) .0) in
+      let p = b .0 in
+      let q = b .1 in
+      let e = x .3 in
+      (omega (arith, lin), omega (arith, lin))
+
+  pub largest-within : (negℤ (pos (2 ^ 50)) ≤ℤ largest (T .states) (statesOf T k) (halfway (settingOf T) t))
+      × (largest (T .states) (statesOf T k) (halfway (settingOf T) t) ≤ℤ pos (2 ^ 50))
+  largest-within =
+      let o = some-state T L k known in
+      let x = largest-reached (T .states) (statesOf T k) (halfway (settingOf T) t) (o .0) (o .1) (o .2) in
+      let b = halfway-within T L t capped (x .0) (x .1) (of-component T L k (x .0) (x .2) .0) in
+      let p = b .0 in
+      let q = b .1 in
+      let e = x .3 in
+      (omega (arith, lin), omega (arith, lin))
+
 -- a step is held exactly if the halfway numbers are more than H apart
 module _ (M : Setting) (L : Lawful (M .table)) (t : ℕ → ℕ) (k : ℕ) (known : k < components (M .table)) where
   pub shifted-is : (s : ℕ) → s < M .table .states → statesOf (M .table) k s ≡ true

@@ -171,3 +171,43 @@ fn lower(hi: &mut [i64], component: usize, up: i64)
     let before = hi[component];
     hi[component] = if up < before { up } else { before };
 }
+
+// Whether the halfway numbers are more than H apart.
+fn apart(found: Extremes) -> bool
+    requires least { ⌜ (negℤ (pos (2 ^ 50)) ≤ℤ found .least) × (found .least ≤ℤ pos (2 ^ 50)) ⌝ }
+    requires largest { ⌜ (negℤ (pos (2 ^ 50)) ≤ℤ found .largest) × (found .largest ≤ℤ pos (2 ^ 50)) ⌝ }
+    ensures { λ r. ⌜ r ≡ ltZ (pos (2 ^ 46)) (found .largest -ℤ found .least) ⌝ }
+{
+    CAP < found.largest - found.least
+}
+
+// One step at a component; answers whether it was held.
+fn refine_step(frame: &Frame, book: &mut Book, component: u32) -> bool
+    requires framed { ⌜ Framed (now frame) ⌝ }
+    requires kept { ⌜ Kept (tableOf (now frame)) (now book) ⌝ }
+    requires component { ⌜ component < components (tableOf (now frame)) ⌝ }
+    ensures book { λ _. ⌜ bookOf (now (book .exit)) ≡ refining.step (settingOf (tableOf (now (frame .entry)))) component (bookOf (now (book .entry))) ⌝ }
+    ensures held { λ r. ⌜ r ≡ refining.held (settingOf (tableOf (now (frame .entry)))) (at (bookOf (now (book .entry)) .vector)) component ⌝ }
+    ensures kept { λ _. ⌜ Kept (tableOf (now (frame .entry))) (now (book .exit)) ⌝ }
+{
+    let found = survey(
+        frame,
+        &book.vector,
+        component,
+        &mut book.halfway,
+        &mut book.marks,
+    );
+    let held = apart(found);
+    let rises = raise(&mut book.lo, component as usize, found.down);
+    lower(&mut book.hi, component as usize, found.up);
+    record_marks(frame, component, rises, &book.marks, &mut book.recorded);
+    shift(
+        frame,
+        component,
+        held,
+        &book.halfway,
+        found.least,
+        &mut book.vector,
+    );
+    held
+}
