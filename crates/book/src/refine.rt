@@ -4,7 +4,7 @@ ghost use mathlib.Core.Logic.{_⊎_};
 ghost use Prim.Native.Nat.{ℕ, _<_, _^_};
 ghost use lib.IntN.{ℤ, pos, negℤ, _+ℤ_, _-ℤ_};
 ghost use lib.ListN.{length, getD, set};
-ghost use lib.Signed.{_≤ℤ_, ltZ};
+ghost use lib.Signed.{_≤ℤ_, leZ, ltZ};
 ghost use Rattle.horizon.specs.Means.{roundDown};
 ghost use Rattle.components.specs.Nodes.{components, statesOf};
 ghost use Rattle.rules.specs.Choosing.{at, atZ, largest, smallest};
@@ -210,4 +210,48 @@ fn refine_step(frame: &Frame, book: &mut Book, component: u32) -> bool
         &mut book.vector,
     );
     held
+}
+
+// Whether a difference is at most the width.
+fn at_most(gap: i64, width: u64) -> bool
+    ensures { λ r. ⌜ r ≡ leZ gap (pos width) ⌝ }
+{
+    gap < 0 || gap as u64 <= width
+}
+
+// Whether hi - lo of a component is at most the width.
+fn narrow(lo: &[i64], hi: &[i64], component: usize, width: u64) -> bool
+    requires lo { ⌜ component < length (now lo) ⌝ }
+    requires hi { ⌜ component < length (now hi) ⌝ }
+    requires low { ⌜ (negℤ (pos (2 ^ 46)) ≤ℤ atZ (now lo) component) × (atZ (now lo) component ≤ℤ pos (2 ^ 46)) ⌝ }
+    requires high { ⌜ (negℤ (pos (2 ^ 46)) ≤ℤ atZ (now hi) component) × (atZ (now hi) component ≤ℤ pos (2 ^ 46)) ⌝ }
+    ensures { λ r. ⌜ r ≡ leZ (atZ (now (hi .entry)) component -ℤ atZ (now (lo .entry)) component) (pos width) ⌝ }
+{
+    at_most(hi[component] - lo[component], width)
+}
+
+// At most `steps` steps at a component: they end before a step if hi - lo is at most the width, and after a held step. Answers how many were made.
+pub(crate) fn refine_steps(
+    frame: &Frame,
+    book: &mut Book,
+    component: u32,
+    steps: u64,
+    width: u64,
+) -> u64
+    requires framed { ⌜ Framed (now frame) ⌝ }
+    requires kept { ⌜ Kept (tableOf (now frame)) (now book) ⌝ }
+    requires component { ⌜ component < components (tableOf (now frame)) ⌝ }
+    ensures made { λ r. ⌜ r ≡ refining.refine (settingOf (tableOf (now (frame .entry)))) component steps width (bookOf (now (book .entry))) .made ⌝ }
+    ensures book { λ _. ⌜ bookOf (now (book .exit)) ≡ refining.refine (settingOf (tableOf (now (frame .entry)))) component steps width (bookOf (now (book .entry))) .book ⌝ }
+    ensures kept { λ _. ⌜ Kept (tableOf (now (frame .entry))) (now (book .exit)) ⌝ }
+{
+    for made in 0..steps {
+        if narrow(&book.lo, &book.hi, component as usize, width) {
+            return made;
+        }
+        if refine_step(frame, book, component) {
+            return made + 1;
+        }
+    }
+    steps
 }
