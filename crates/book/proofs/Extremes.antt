@@ -1,19 +1,17 @@
 -- The states of a component are the members of its node; the largest and the least over them, place by place.
-use mathlib.Core.Path.{_≡_, refl, sym, ap, subst, _∙_}
-use mathlib.Core.Bool.{Bool, true, false}
+use mathlib.Core.Path.{_≡_, ap, subst, _∙_}
+use mathlib.Core.Bool.{true, false}
 use mathlib.Core.Logic.{_⊎_, inl, inr, ⊎-elim}
 use Prim.Native.Nat.{ℕ, _+_, _<_, _≤_, _^_}
 use native.Mathlib.Omega.{arith}
-use lib.Dec.{eqb}
 use lib.IntN.{ℤ, pos, negℤ}
 use lib.ListN.{getD}
 use lib.Signed.{_≤ℤ_}
 use Rattle.std.specs.Options.{Cases}
 use Rattle.std.specs.declared.option.Option.{Option}
-use Rattle.std.specs.declared.option.Option.the-variants.{Some}
 use Rattle.std.proofs.shelf.Tests.{cases-eq, both-ways, eqb-true, eq-eqb}
 use Rattle.horizon.proofs.Ring.{lin}
-use Rattle.components.specs.Nodes.{nodes, nodeOf, components, componentAt, statesOf, statesOfNode}
+use Rattle.components.specs.Nodes.{nodes, nodeOf, components, statesOf, statesOfNode}
 use Rattle.components.specs.Law.{SameStates, Lone}
 use Rattle.components.proofs.Nodes.{node-law}
 use Rattle.rules.specs.Choosing.{largest, smallest}
@@ -47,9 +45,6 @@ module _ (f : Frame) (F : Framed f) (k : ℕ) (known : k < components (tableOf f
 
   pub not-node : (s : ℕ) → s < tableOf f .states → statesOf (tableOf f) k s ≡ false → nodeOf (tableOf f) s ≡ homeOf f k → ⊥
   not-node s h e q = both-ways (statesOf (tableOf f) k s) e (to-state s h q)
-
-  pub member-in : (i : ℕ) → startAt f (homeOf f k) ≤ i → i < startAt f (homeOf f k + 1) → statesOf (tableOf f) k (memberAt f i) ≡ true
-  member-in i low high = let m = member-of f F (homeOf f k) home-node i low high in to-state (memberAt f i) (m .0) (m .1)
 
 -- m bounds g from the place a to before i, and is one of these or below all numbers in use
 abbrev pub Highest : (ℕ → ℤ) → ℕ → ℕ → ℤ → Type 0

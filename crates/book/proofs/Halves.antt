@@ -1,14 +1,13 @@
 -- How large the gains and the halfway numbers of a component are, and when a step is held.
-use mathlib.Core.Path.{_≡_, sym, ap, _∙_}
+use mathlib.Core.Path.{_≡_, sym, _∙_}
 use mathlib.Core.Bool.{Bool, true, false, not, _||_}
 use mathlib.Core.Logic.{⊎-elim}
 use Prim.Native.Nat.{ℕ, _≤_, _<_, _^_}
 use native.Mathlib.Omega.{arith}
 use lib.Dec.{leb}
-use lib.IntN.{ℤ, pos, negℤ, natAbs, _-ℤ_}
-use lib.Signed.{_≤ℤ_, _<ℤ_, ltZ}
-use Rattle.std.proofs.shelf.Signed.{ints}
-use Rattle.std.proofs.shelf.Tests.{cases-bool, both-ways, le-leb, or-left, or-right, not-from-true, not-from-false}
+use lib.IntN.{ℤ, pos, negℤ, _-ℤ_}
+use lib.Signed.{_≤ℤ_, ltZ}
+use Rattle.std.proofs.shelf.Tests.{cases-bool, le-leb, or-left, or-right, not-from-true, not-from-false}
 use Rattle.table.specs.Table.{Table}
 use Rattle.table.specs.Limits.{Lawful}
 use Rattle.horizon.specs.Means.{Rounding, roundDown}
@@ -21,7 +20,6 @@ use Rattle.rules.specs.Setting.{Setting, settingOf}
 use Rattle.rules.specs.Refine.{gain, halfway, shifted, held}
 use Rattle.rules.proofs.Choosing.{largest-bound, largest-reached, smallest-bound, smallest-reached}
 use Rattle.rules.proofs.Nodes.{some-state, of-component}
-use Rattle.rules.proofs.Order.{lt-ltZ, le-ltZ}
 use Rattle.rules.proofs.Ranges.{halfway-twice}
 use Rattle.rules.proofs.Sides.{Side, lower-side}
 use Rattle.rules.proofs.StepFacts.{shifted-capped}

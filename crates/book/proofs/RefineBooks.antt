@@ -9,7 +9,6 @@ use lib.ListN.{length, getD, set}
 use lib.Signed.{_≤ℤ_, ltZ}
 use Rattle.std.proofs.shelf.Counted.{fill-by-all}
 use Rattle.std.proofs.shelf.Lists.{length-map}
-use Rattle.std.proofs.shelf.Signed.{ints}
 use Rattle.std.proofs.shelf.Tests.{and-parts}
 use Rattle.std.specs.Of.Vec.{vec-items}
 use Rattle.table.specs.Table.{Table}
@@ -21,7 +20,7 @@ use Rattle.rules.specs.Setting.{Setting, settingOf}
 use Rattle.rules.specs.Book as rules
 use Rattle.rules.specs.Refine.{leastDown, attains, halfway, shifted, held, nextVector, nextHi, nextLo, nextRecorded, step}
 use Rattle.rules.specs.declared.exit.Exit.{Exit}
-use Rattle.book.specs.Books.{bookOf, Kept}
+use Rattle.book.specs.Books.{Kept}
 use Rattle.book.specs.Inside.{vectorOf}
 use Rattle.book.specs.declared.book.Book.{Book}
 use Rattle.book.proofs.Halves.{shifted-is}

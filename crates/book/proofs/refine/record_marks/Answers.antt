@@ -1,14 +1,14 @@
-use mathlib.Core.Path.{_≡_, refl, sym, _∙_}
-use mathlib.Core.Bool.{Bool, true, false, cond, _&&_}
+use mathlib.Core.Path.{_≡_, sym, _∙_}
+use mathlib.Core.Bool.{Bool, true, false, _&&_}
 use mathlib.Core.Logic.{⊎-elim}
-use Prim.Native.Nat.{ℕ, _+_, _<_, _≤_}
+use Prim.Native.Nat.{ℕ}
 use native.Mathlib.Omega.{arith}
 use Rattle.std.proofs.shelf.Tests.{cases-bool, cond-true, cond-false, and-from, and-left, and-right}
-use Rattle.components.specs.Nodes.{nodeOf, statesOf}
+use Rattle.components.specs.Nodes.{statesOf}
 use Rattle.rules.specs.Choosing.{at}
-use Rattle.book.specs.Frames.{tableOf, startAt}
+use Rattle.book.specs.Frames.{tableOf}
 use Rattle.book.specs.declared.frame.Frame.{Frame}
-use Rattle.book.proofs.Members.{memberAt, member-of, written-more, written-all}
+use Rattle.book.proofs.Members.{member-of, written-more, written-all}
 use Rattle.book.proofs.Extremes.{homeOf, home-node, to-node, not-node}
 use Rattle.book.proofs.refine.record_marks.Needs as need
 

@@ -1,18 +1,18 @@
 use mathlib.Core.Path.{_≡_, refl, sym, ap, subst, _∙_}
-use mathlib.Core.Bool.{Bool, true, false, cond, not, _&&_}
+use mathlib.Core.Bool.{true, false, cond, not, _&&_}
 use mathlib.Core.List.{List, map}
-use Prim.Native.Nat.{ℕ, _<_, _≤_, _^_}
+use Prim.Native.Nat.{ℕ, _<_, _^_}
 use native.Mathlib.Omega.{arith}
 use borrow.Author.Needs.{needs}
-use lib.IntN.{ℤ, pos, negℤ, natAbs, _+ℤ_, _-ℤ_}
+use lib.IntN.{ℤ, pos, negℤ, natAbs, _-ℤ_}
 use lib.ListN.{length, getD, set}
 use lib.Signed.{_≤ℤ_, ltZ}
 use mir.Syntax.{w64}
 use mir.Val.{SFits, toZ, ofZ}
 use Rattle.std.specs.Changed.{refilled}
 use Rattle.std.specs.Of.Vec.{vec-items, vec-len}
-use Rattle.std.proofs.shelf.Lists.{refilled-is, length-set}
-use Rattle.std.proofs.shelf.Signed.{ints, toZ-ofZ}
+use Rattle.std.proofs.shelf.Lists.{refilled-is}
+use Rattle.std.proofs.shelf.Signed.{toZ-ofZ}
 use Rattle.table.specs.Table.{Table}
 use Rattle.components.specs.Nodes.{statesOf}
 use Rattle.horizon.proofs.Ring.{lin}
@@ -23,13 +23,13 @@ use Rattle.rules.specs.Book as rules
 use Rattle.rules.specs.Fit.{Fit}
 use Rattle.rules.proofs.Choosing.{largest-bound, smallest-bound}
 use Rattle.rules.proofs.Steps.{step-fit}
-use Rattle.book.specs.Books.{bookOf, Kept}
-use Rattle.book.specs.Frames.{tableOf, Framed}
+use Rattle.book.specs.Books.{bookOf}
+use Rattle.book.specs.Frames.{tableOf}
 use Rattle.book.specs.Inside.{vectorOf}
 use Rattle.book.specs.declared.book.Book.{Book}
 use Rattle.book.specs.declared.frame.Frame.{Frame}
 use Rattle.book.proofs.Halves.{held-is, least-within, largest-within}
-use Rattle.book.proofs.RefineBooks.{same-vector, vector-at, kept-size, kept-natural, kept-capped, kept-small, next-natural, next-vector, next-recorded, step-by}
+use Rattle.book.proofs.RefineBooks.{same-vector, kept-size, kept-natural, kept-capped, kept-small, next-natural, next-vector, next-recorded, step-by}
 use Rattle.book.proofs.refine.refine_step.Needs as need
 
 pub survey-found-requires : need.survey-found-requires

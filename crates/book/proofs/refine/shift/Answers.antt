@@ -1,7 +1,7 @@
-use mathlib.Core.Path.{_≡_, refl, sym, ap, _∙_}
-use mathlib.Core.Bool.{Bool, true, false, cond, not, _&&_}
+use mathlib.Core.Path.{_≡_, sym, _∙_}
+use mathlib.Core.Bool.{Bool, true, false, not, _&&_}
 use mathlib.Core.Logic.{⊎-elim}
-use Prim.Native.Nat.{ℕ, _+_, _<_, _≤_}
+use Prim.Native.Nat.{ℕ}
 use native.Mathlib.Omega.{arith}
 use borrow.Author.Needs.{needs}
 use lib.IntN.{ℤ, pos, _-ℤ_}
@@ -10,8 +10,8 @@ use mir.Syntax.{w64}
 use mir.Val.{SFits}
 use Rattle.std.proofs.shelf.Signed.{ints, toZ-ofZ}
 use Rattle.std.proofs.shelf.Tests.{cases-bool, cond-true, cond-false, and-from, and-left, and-right, not-from-true, not-from-false}
-use Rattle.components.specs.Nodes.{nodeOf, statesOf}
-use Rattle.book.specs.Frames.{tableOf, startAt}
+use Rattle.components.specs.Nodes.{statesOf}
+use Rattle.book.specs.Frames.{tableOf}
 use Rattle.book.specs.declared.frame.Frame.{Frame}
 use Rattle.book.proofs.Members.{memberAt, member-of, Written, written-more, written-all}
 use Rattle.book.proofs.Extremes.{homeOf, home-node, to-state, to-node, not-node}

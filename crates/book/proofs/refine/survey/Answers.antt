@@ -1,5 +1,4 @@
-use mathlib.Core.Path.{_≡_, refl, sym, ap, subst, _∙_}
-use mathlib.Core.Bool.{true}
+use mathlib.Core.Path.{_≡_, sym, ap, subst, _∙_}
 use mathlib.Core.List.{List}
 use Prim.Native.Nat.{ℕ, _+_, _<_, _≤_, _^_}
 use native.Mathlib.Omega.{arith}
@@ -12,17 +11,16 @@ use mir.Val.{SFits}
 use Rattle.std.proofs.shelf.Signed.{ints, toZ-ofZ}
 use Rattle.table.specs.Table.{Table}
 use Rattle.horizon.specs.Means.{roundDown, roundUp}
-use Rattle.components.specs.Nodes.{inComponent, nodeOf, statesOf}
 use Rattle.rules.specs.Refine.{gain, halfway, attains, largestUp, leastDown}
 use Rattle.rules.specs.Setting.{Setting, settingOf}
 use Rattle.rules.proofs.Nodes.{of-component}
 use Rattle.rules.proofs.Sides.{lower-side, upper-side}
-use Rattle.book.specs.Frames.{tableOf, startAt, Framed}
+use Rattle.book.specs.Frames.{tableOf, startAt}
 use Rattle.book.specs.Inside.{vectorOf}
 use Rattle.book.specs.declared.frame.Frame.{Frame}
 use Rattle.book.proofs.Rows.{natural-is}
 use Rattle.book.proofs.Members.{memberAt, member-of, Written, written-more, written-all}
-use Rattle.book.proofs.Extremes.{homeOf, home-node, to-state, to-node, member-in, highest-more, lowest-more, highest-all, lowest-all}
+use Rattle.book.proofs.Extremes.{homeOf, home-node, to-state, to-node, highest-more, lowest-more, highest-all, lowest-all}
 use Rattle.book.proofs.Halves.{gain-within, halfway-within}
 use Rattle.book.proofs.refine.survey.Needs as need
 
