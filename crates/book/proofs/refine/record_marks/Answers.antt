@@ -9,7 +9,7 @@ use Rattle.rules.specs.Choosing.{at}
 use Rattle.book.specs.Frames.{tableOf}
 use Rattle.book.specs.declared.frame.Frame.{Frame}
 use Rattle.book.proofs.Members.{member-of, written-more, written-all}
-use Rattle.book.proofs.Extremes.{homeOf, home-node, to-node, not-node}
+use Rattle.book.proofs.StepExtremes.{homeOf, home-node, to-node, not-node}
 use Rattle.book.proofs.refine.record_marks.Needs as need
 
 pub index-marks-state : need.index-marks-state

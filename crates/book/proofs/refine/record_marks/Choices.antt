@@ -1,6 +1,6 @@
 use Rattle.rules.specs.Choosing.{at}
 use Rattle.book.proofs.Members.{Written}
-use Rattle.book.proofs.Extremes.{homeOf}
+use Rattle.book.proofs.StepExtremes.{homeOf}
 use Rattle.book.proofs.refine.record_marks.Given as given
 
 -- the members so far are recorded

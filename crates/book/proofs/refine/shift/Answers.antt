@@ -14,7 +14,7 @@ use Rattle.components.specs.Nodes.{statesOf}
 use Rattle.book.specs.Frames.{tableOf}
 use Rattle.book.specs.declared.frame.Frame.{Frame}
 use Rattle.book.proofs.Members.{memberAt, member-of, Written, written-more, written-all}
-use Rattle.book.proofs.Extremes.{homeOf, home-node, to-state, to-node, not-node}
+use Rattle.book.proofs.StepExtremes.{homeOf, home-node, to-state, to-node, not-node}
 use Rattle.book.proofs.refine.shift.Needs as need
 
 pub index-halfway-state : need.index-halfway-state

@@ -1,7 +1,7 @@
 use lib.IntN.{pos, _-ℤ_}
 use lib.ListN.{getD}
 use Rattle.book.proofs.Members.{Written}
-use Rattle.book.proofs.Extremes.{homeOf}
+use Rattle.book.proofs.StepExtremes.{homeOf}
 use Rattle.book.proofs.refine.shift.Given as given
 
 -- the members so far are shifted

@@ -20,7 +20,7 @@ use Rattle.book.specs.Inside.{vectorOf}
 use Rattle.book.specs.declared.frame.Frame.{Frame}
 use Rattle.book.proofs.Rows.{natural-is}
 use Rattle.book.proofs.Members.{memberAt, member-of, Written, written-more, written-all}
-use Rattle.book.proofs.Extremes.{homeOf, home-node, to-state, to-node, highest-more, lowest-more, highest-all, lowest-all}
+use Rattle.book.proofs.StepExtremes.{homeOf, home-node, to-state, to-node, highest-more, lowest-more, highest-all, lowest-all}
 use Rattle.book.proofs.Halves.{gain-within, halfway-within}
 use Rattle.book.proofs.refine.survey.Needs as need
 

@@ -5,7 +5,7 @@ use Rattle.rules.specs.Setting.{settingOf}
 use Rattle.book.specs.Frames.{tableOf, startAt}
 use Rattle.book.specs.Inside.{vectorOf}
 use Rattle.book.proofs.Members.{memberAt, Written}
-use Rattle.book.proofs.Extremes.{homeOf, Highest, Lowest}
+use Rattle.book.proofs.StepExtremes.{homeOf, Highest, Lowest}
 use Rattle.book.proofs.refine.survey.Given as given
 
 -- the extremes over the members so far, which are written
