@@ -6,6 +6,7 @@ mod gain;
 mod leaving;
 mod mean;
 mod play;
+mod refine;
 mod start;
 mod sweep;
 
