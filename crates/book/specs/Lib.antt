@@ -3,3 +3,9 @@ pub mod Frames
 pub mod Books
 pub mod Inside
 pub mod Plays
+pub mod Copied
+pub mod Listed
+pub mod Grouped
+pub mod Facts
+pub mod Lists
+pub mod Layouts
