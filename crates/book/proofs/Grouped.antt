@@ -1,7 +1,7 @@
 -- The steps of listing the states node by node.
 use mathlib.Core.Path.{_≡_, refl, sym, ap, ap₂, _∙_, subst}
 use mathlib.Core.Bool.{Bool, true, false, cond, not}
-use mathlib.Core.List.{List, [], _∷_, _++_, map}
+use mathlib.Core.List.{List, [], _∷_, _++_}
 use mathlib.Core.Logic.{⊎-elim}
 use Prim.Native.Nat.{ℕ, _+_, _-_, _*_, _<_, _≤_}
 use native.Mathlib.Omega.{arith}
@@ -50,20 +50,6 @@ few-members node starts members more k small G e =
     let b = few-states node (length node) k in
     let d = G .few in
     omega arith
-
--- nothing is grouped yet
-pub none-grouped : (node starts members : List ℕ) → starts ≡ 0 ∷ [] → members ≡ [] → Grouped node 0 starts members
-none-grouped node starts members e f =
-    subst (λ (xs : List ℕ). Grouped node 0 xs members) (sym e)
-    (subst (λ (ys : List ℕ). Grouped node 0 (0 ∷ []) ys) (sym f)
-    (record {
-      size = refl;
-      few = omega arith;
-      last = refl;
-      rises = λ v h. absurd (omega arith);
-      within = λ v h. absurd (omega arith);
-      at = λ v h. absurd (omega arith);
-    }))
 
 -- a part of a list that lies before its end is the same part of a longer list
 part-append : (xs ys : List ℕ) (a b : ℕ) → a ≤ b → b ≤ length xs → take (b - a) (drop a (xs ++ ys)) ≡ take (b - a) (drop a xs)

@@ -2,13 +2,12 @@
 use mathlib.Core.Path.{_≡_, refl, sym, ap, ap₂, _∙_, subst}
 use mathlib.Core.Bool.{Bool, true, false, cond}
 use mathlib.Core.List.{List, [], _∷_, _++_, map}
-use Prim.Native.Nat.{ℕ, zero, suc, _+_, _<_, _≤_}
-use native.Mathlib.Numerals.{add-one}
+use Prim.Native.Nat.{ℕ, zero, suc, _+_, _<_}
 use native.Mathlib.Omega.{arith}
 use lib.Dec.{eqb}
 use lib.ListN.{length, getD}
 use Rattle.std.specs.Iters.{counting}
-use Rattle.std.specs.Of.Vec.{vec-items, vec-len}
+use Rattle.std.specs.Of.Vec.{vec-len}
 use Rattle.std.specs.Options.{Cases}
 use Rattle.std.specs.shelf.Lists.{kept-by}
 use Rattle.std.specs.declared.option.Option.{Option}
@@ -17,22 +16,20 @@ use Rattle.std.proofs.shelf.Counted.{getD-map-counting, length-map-counting}
 use Rattle.std.proofs.shelf.Lists.{length-map, getD-map}
 use Rattle.std.proofs.shelf.Tests.{eqb-true}
 use Rattle.table.specs.Table.{Table, successor, weight}
-use Rattle.table.specs.Limits.{Lawful}
 use Rattle.table.specs.Walk.{faultOf}
 use Rattle.table.specs.declared.fault.Fault.{Fault}
 use Rattle.table.proofs.WalkLaw.{walk-law}
-use Rattle.sources.specs.Rows.{noState, noChoice, stateAt, choiceAt, listTable}
+use Rattle.sources.specs.Rows.{noState, noChoice, choiceAt}
 use Rattle.sources.specs.declared.list.StateRow.{StateRow}
 use Rattle.sources.specs.declared.list.ChoiceRow.{ChoiceRow}
-use Rattle.components.specs.EndComponent.{Choice}
-use Rattle.components.specs.Nodes.{nodes, nodeOf, components, componentAt, statesOf, choicesOf, statesOfNode}
+use Rattle.components.specs.Nodes.{nodes, nodeOf, components, componentAt, statesOf, choicesOf}
 use Rattle.components.specs.Law.{ComponentsLaw, component}
 use Rattle.decomposition.specs.Decomposed.{insideIn, nodeIn, componentIn, Decomposed}
 use Rattle.decomposition.specs.declared.parts.Parts.{Parts}
 use Rattle.book.specs.Copied.{TableCopied}
 use Rattle.book.specs.Listed.{linkOf, Homes}
 use Rattle.book.specs.Grouped.{statesAt, Grouped}
-use Rattle.book.specs.Facts.{faultless, ChoiceIn, BranchIn}
+use Rattle.book.specs.Facts.{faultless}
 use Rattle.book.specs.Lists.{FlatLists, flatTable, Holds}
 use Rattle.book.specs.Frames.{Framed}
 use Rattle.book.specs.Layouts.{listsOf, frameLists}

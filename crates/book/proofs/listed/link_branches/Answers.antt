@@ -1,9 +1,8 @@
-use mathlib.Core.Path.{_≡_, _∙_, sym, ap, ap₂}
+use mathlib.Core.Path.{_∙_, sym, ap, ap₂}
 use mathlib.Core.List.{List, [], _∷_, _++_, map}
 use Prim.Native.Nat.{ℕ}
 use native.Mathlib.Omega.{arith}
-use lib.ListN.{take, getD}
-use Rattle.std.specs.Of.Vec.{vec-items}
+use lib.ListN.{getD}
 use Rattle.std.proofs.shelf.Lists.{map-more, take-all}
 use Rattle.decomposition.specs.Decomposed.{nodeIn}
 use Rattle.book.specs.Listed.{linkOf}

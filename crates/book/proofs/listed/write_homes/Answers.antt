@@ -1,4 +1,3 @@
-use mathlib.Core.Path.{_≡_, sym}
 use native.Mathlib.Omega.{arith}
 use Rattle.book.proofs.Homes.{homes-none, homes-out, homes-set}
 use Rattle.book.proofs.listed.write_homes.Needs as need

@@ -1,5 +1,4 @@
 use mathlib.Core.Path.{_≡_}
-use Rattle.book.specs.Lists.{FlatLists}
 use Rattle.book.specs.Layouts.{listsOf, frameLists}
 use Rattle.book.specs.declared.frame.Frame.{Frame}
 use Rattle.book.proofs.Laid.{frame-of}
