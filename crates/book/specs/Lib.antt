@@ -5,3 +5,9 @@ pub mod Inside
 pub mod Plays
 pub mod Sweeps
 pub mod Starts
+pub mod Copied
+pub mod Listed
+pub mod Grouped
+pub mod Facts
+pub mod Lists
+pub mod Layouts
