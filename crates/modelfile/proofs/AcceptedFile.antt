@@ -26,14 +26,14 @@ use Rattle.modelfile.proofs.Inverse.{then-inv, record-inv, file-inv, test-inv,
 use Rattle.modelfile.proofs.Accepted.{Stands, stands-none, stands-append, Small, number-reads, signed-reads, text-reads, branches-reads, set-reads}
 
 -- a bit map is the sum of its bits
-two-bits : (m : ℕ) → m < 4 → cond (hasBit 1 m) 1 0 + cond (hasBit 2 m) 2 0 ≡ m
+pub two-bits : (m : ℕ) → m < 4 → cond (hasBit 1 m) 1 0 + cond (hasBit 2 m) 2 0 ≡ m
 two-bits zero h = refl
 two-bits (suc zero) h = refl
 two-bits (suc (suc zero)) h = refl
 two-bits (suc (suc (suc zero))) h = refl
 two-bits (suc (suc (suc (suc m)))) h = absurd (omega arith)
 
-three-bits : (m : ℕ) → m < 8 → cond (hasBit 1 m) 1 0 + cond (hasBit 2 m) 2 0 + cond (hasBit 4 m) 4 0 ≡ m
+pub three-bits : (m : ℕ) → m < 8 → cond (hasBit 1 m) 1 0 + cond (hasBit 2 m) 2 0 + cond (hasBit 4 m) 4 0 ≡ m
 three-bits zero h = refl
 three-bits (suc zero) h = refl
 three-bits (suc (suc zero)) h = refl

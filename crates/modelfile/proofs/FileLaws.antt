@@ -4,7 +4,7 @@ use Prim.Native.Nat.{ℕ}
 use Rattle.modelfile.specs.Law.{FileLaw}
 use Rattle.modelfile.proofs.Accepted.{Small}
 use Rattle.modelfile.proofs.AcceptedFile.{file-reads}
-use Rattle.modelfile.proofs.Refused.{placed-inside}
+use Rattle.modelfile.proofs.Refused.{placed-inside, placed-begun, trailing-whole}
 use Rattle.modelfile.proofs.RestoredFile.{file-restores}
 use Rattle.modelfile.proofs.Tables.{same-table}
 
@@ -14,4 +14,6 @@ file-law file small = record {
   restored = file-restores;
   described = same-table;
   inside = placed-inside file small;
+  begun = placed-begun file small;
+  whole = trailing-whole file small;
 }

@@ -6,6 +6,7 @@ pub mod WalkEnds
 pub mod Loads
 pub mod FileLaws
 pub mod Tables
+pub mod Begun
 pub mod Refused
 pub mod Accepted
 pub mod AcceptedFile
