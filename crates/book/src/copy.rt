@@ -27,7 +27,7 @@ fn copy_branches<S: Source>(
     choice: u32,
     branches: &mut Vec<(u32, u32)>,
 ) -> Result<(), LoadFault>
-    ensures { Copies result (λ _. BranchesCopied (table source.now) state choice branches.old.items branches.new.items) }
+    ensures { Copies result (λ _. BranchesCopied (S.table source.now) state choice branches.old.items branches.new.items) }
 {
     for branch in 0..source.branches(state, choice) {
         branches.push(source.branch(state, choice, branch))?;
@@ -42,10 +42,10 @@ fn copy_choices<S: Source>(
     choices: &mut Vec<ChoiceRow>,
     branches: &mut Vec<(u32, u32)>,
 ) -> Result<(), LoadFault>
-    requires lawful { Lawful (table source.now) }
-    requires within { state < (table source.now).states }
+    requires lawful { Lawful (S.table source.now) }
+    requires within { state < (S.table source.now).states }
     requires room { length branches.old.items ≤ 128 * 256 }
-    ensures { Copies result (λ _. ChoicesCopied (table source.now) state ((table source.now).choices state) choices.old.items choices.new.items branches.old.items branches.new.items) }
+    ensures { Copies result (λ _. ChoicesCopied (S.table source.now) state ((S.table source.now).choices state) choices.old.items choices.new.items branches.old.items branches.new.items) }
 {
     for choice in 0..source.choices(state) {
         let first = branches.len() as u32;
@@ -82,8 +82,8 @@ pub(crate) fn copy_states<S: Source>(
     source: &S,
     parts: &Parts,
 ) -> Result<TableRows, LoadFault>
-    requires { Lawful (table source.now) }
-    ensures { Copies result (λ t. TableCopied (table source.now) (inside_in parts.now) t.states.items t.choices.items t.branches.items t.inside.items) }
+    requires { Lawful (S.table source.now) }
+    ensures { Copies result (λ t. TableCopied (S.table source.now) (inside_in parts.now) t.states.items t.choices.items t.branches.items t.inside.items) }
 {
     let mut states = Vec::new(heap);
     let mut choices = Vec::new(heap);

@@ -16,8 +16,8 @@ use table::Source;
 
 // The lists of a lawful table and its parts.
 fn lay_out<S: Source>(heap: Global, source: &S, parts: &Parts) -> Result<Layout, LoadFault>
-    requires { Decomposed (table source.now) parts.now }
-    ensures { Copies result (λ l. layout_table l ≡ table source.now) }
+    requires { Decomposed (S.table source.now) parts.now }
+    ensures { Copies result (λ l. layout_table l ≡ S.table source.now) }
 {
     let TableRows {
         states,
@@ -49,7 +49,7 @@ fn lay_out<S: Source>(heap: Global, source: &S, parts: &Parts) -> Result<Layout,
 impl Layout {
     // The layout of the source's table, if it is lawful; else the first broken limit on its walk.
     pub fn of<S: Source>(heap: Global, source: &S) -> Result<Layout, LoadFault>
-        ensures { MatchResult result (LaidOut (table source.now)) (RefusedLoad (table source.now)) }
+        ensures { MatchResult result (LaidOut (S.table source.now)) (RefusedLoad (S.table source.now)) }
     {
         let parts = decompose(heap, source)?;
         let layout = lay_out(heap, source, &parts)?;

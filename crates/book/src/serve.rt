@@ -22,7 +22,7 @@ use table::Source;
 impl Desk {
     // The source's table at its start, if it is lawful; else the first broken limit on its walk.
     pub fn open<S: Source>(heap: Global, source: &S) -> Result<Desk, LoadFault>
-        ensures { MatchResult result (AtStart (table source.now)) (RefusedLoad (table source.now)) }
+        ensures { MatchResult result (AtStart (S.table source.now)) (RefusedLoad (S.table source.now)) }
     {
         let layout = Layout::of(heap, source)?;
         let book = new_book(heap, &layout.frame())?;

@@ -17,12 +17,12 @@ use table::{Source, check};
 
 // Keeps the inside choices of all, and marks what reaches what by them.
 fn take_apart<S: Source>(source: &S, flags: &mut [bool], words: &mut [u64])
-    requires lawful { Lawful (table source.now) }
-    requires size { 4 * (table source.now).states ≤ length words.old }
-    requires places { 16 * (table source.now).states ≤ length flags.old }
-    requires all { AllSet (table source.now) flags.old }
-    ensures kept { Flagged (table source.now) flags.new (inside (table source.now)) }
-    ensures reached { Shows (table source.now).states words.new (reach (table source.now) (inside (table source.now))) }
+    requires lawful { Lawful (S.table source.now) }
+    requires size { 4 * (S.table source.now).states ≤ length words.old }
+    requires places { 16 * (S.table source.now).states ≤ length flags.old }
+    requires all { AllSet (S.table source.now) flags.old }
+    ensures kept { Flagged (S.table source.now) flags.new (inside (S.table source.now)) }
+    ensures reached { Shows (S.table source.now).states words.new (reach (S.table source.now) (inside (S.table source.now))) }
 {
     settle(source, flags, words, count_choices(source));
     mark_reach(source, flags, words);
@@ -46,7 +46,7 @@ fn new_words(heap: Global, count: usize) -> Result<Vec<u64>, LoadFault>
 
 // The components, the inside choices and the nodes of a table, if it is lawful; else the first broken limit on its walk.
 pub fn decompose<S: Source>(heap: Global, source: &S) -> Result<Parts, LoadFault>
-    ensures { MatchResult result (Decomposed (table source.now)) (RefusedLoad (table source.now)) }
+    ensures { MatchResult result (Decomposed (S.table source.now)) (RefusedLoad (S.table source.now)) }
 {
     check(source)?;
     let states = source.states() as usize;

@@ -15,8 +15,8 @@ use table::Source;
 
 // How many choices a table has.
 pub(crate) fn count_choices<S: Source>(source: &S) -> usize
-    requires { Lawful (table source.now) }
-    ensures { result ≡ sum_n (table source.now).states (table source.now).choices }
+    requires { Lawful (S.table source.now) }
+    ensures { result ≡ sum_n (S.table source.now).states (S.table source.now).choices }
 {
     let mut sum: usize = 0;
     for state in 0..source.states() {
@@ -40,10 +40,10 @@ fn lowest_state(words: &[u64], states: usize, state: usize) -> usize
 
 // Whether a state has a kept choice.
 fn has_choice<S: Source>(source: &S, flags: &[bool], state: u32) -> bool
-    requires lawful { Lawful (table source.now) }
-    requires within { state < (table source.now).states }
-    requires places { 16 * (table source.now).states ≤ length flags.now }
-    ensures { result ≡ any ((table source.now).choices state) (flag_at flags.now state) }
+    requires lawful { Lawful (S.table source.now) }
+    requires within { state < (S.table source.now).states }
+    requires places { 16 * (S.table source.now).states ≤ length flags.now }
+    ensures { result ≡ any ((S.table source.now).choices state) (flag_at flags.now state) }
 {
     for choice in 0..source.choices(state) {
         let place = 16 * state as usize + choice as usize;
@@ -64,14 +64,14 @@ fn number_state<S: Source>(
     node: &mut Vec<u32>,
     component: &mut Vec<Option<u32>>,
 ) -> Result<u32, LoadFault>
-    requires lawful { Lawful (table source.now) }
-    requires within { state < (table source.now).states }
-    requires size { 4 * (table source.now).states ≤ length words.now }
-    requires places { 16 * (table source.now).states ≤ length flags.now }
-    requires kept { Flagged (table source.now) flags.now (inside (table source.now)) }
-    requires reached { Shows (table source.now).states words.now (reach (table source.now) (inside (table source.now))) }
-    requires so_far { Numbered (table source.now) state node.old.items component.old.items components }
-    ensures { Copies result (λ k. Numbered (table source.now) (state + 1) node.new.items component.new.items k) }
+    requires lawful { Lawful (S.table source.now) }
+    requires within { state < (S.table source.now).states }
+    requires size { 4 * (S.table source.now).states ≤ length words.now }
+    requires places { 16 * (S.table source.now).states ≤ length flags.now }
+    requires kept { Flagged (S.table source.now) flags.now (inside (S.table source.now)) }
+    requires reached { Shows (S.table source.now).states words.now (reach (S.table source.now) (inside (S.table source.now))) }
+    requires so_far { Numbered (S.table source.now) state node.old.items component.old.items components }
+    ensures { Copies result (λ k. Numbered (S.table source.now) (state + 1) node.new.items component.new.items k) }
 {
     let low = lowest_state(words, source.states() as usize, state as usize);
     if low < state as usize {
@@ -99,13 +99,13 @@ pub(crate) fn number<S: Source>(
     node: &mut Vec<u32>,
     component: &mut Vec<Option<u32>>,
 ) -> Result<u32, LoadFault>
-    requires lawful { Lawful (table source.now) }
-    requires size { 4 * (table source.now).states ≤ length words.now }
-    requires places { 16 * (table source.now).states ≤ length flags.now }
-    requires kept { Flagged (table source.now) flags.now (inside (table source.now)) }
-    requires reached { Shows (table source.now).states words.now (reach (table source.now) (inside (table source.now))) }
-    requires so_far { Numbered (table source.now) 0 node.old.items component.old.items 0 }
-    ensures { Copies result (λ k. Numbered (table source.now) (table source.now).states node.new.items component.new.items k) }
+    requires lawful { Lawful (S.table source.now) }
+    requires size { 4 * (S.table source.now).states ≤ length words.now }
+    requires places { 16 * (S.table source.now).states ≤ length flags.now }
+    requires kept { Flagged (S.table source.now) flags.now (inside (S.table source.now)) }
+    requires reached { Shows (S.table source.now).states words.now (reach (S.table source.now) (inside (S.table source.now))) }
+    requires so_far { Numbered (S.table source.now) 0 node.old.items component.old.items 0 }
+    ensures { Copies result (λ k. Numbered (S.table source.now) (S.table source.now).states node.new.items component.new.items k) }
 {
     let mut components = 0;
     for state in 0..source.states() {

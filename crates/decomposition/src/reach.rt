@@ -10,10 +10,10 @@ use table::Source;
 
 // Marks the successors of a choice in the row of its state.
 fn mark_choice<S: Source>(source: &S, state: u32, choice: u32, words: &mut [u64])
-    requires lawful { Lawful (table source.now) }
-    requires choice { Choice (table source.now) state choice }
-    requires size { 4 * (table source.now).states ≤ length words.old }
-    ensures { Marks words.old words.new state (branch_to (table source.now) state choice) }
+    requires lawful { Lawful (S.table source.now) }
+    requires choice { Choice (S.table source.now) state choice }
+    requires size { 4 * (S.table source.now).states ≤ length words.old }
+    ensures { Marks words.old words.new state (branch_to (S.table source.now) state choice) }
 {
     for branch in 0..source.branches(state, choice) {
         let (successor, _) = source.branch(state, choice, branch);
@@ -23,11 +23,11 @@ fn mark_choice<S: Source>(source: &S, state: u32, choice: u32, words: &mut [u64]
 
 // Marks a state and the successors of its kept choices in its row.
 fn mark_state<S: Source>(source: &S, flags: &[bool], state: u32, words: &mut [u64])
-    requires lawful { Lawful (table source.now) }
-    requires within { state < (table source.now).states }
-    requires size { 4 * (table source.now).states ≤ length words.old }
-    requires places { 16 * (table source.now).states ≤ length flags.now }
-    ensures { Marks words.old words.new state (one_step (table source.now) (flag_at flags.now) state) }
+    requires lawful { Lawful (S.table source.now) }
+    requires within { state < (S.table source.now).states }
+    requires size { 4 * (S.table source.now).states ≤ length words.old }
+    requires places { 16 * (S.table source.now).states ≤ length flags.now }
+    ensures { Marks words.old words.new state (one_step (S.table source.now) (flag_at flags.now) state) }
 {
     let s = state as usize;
     set_bit(words, s, s);
@@ -41,10 +41,10 @@ fn mark_state<S: Source>(source: &S, flags: &[bool], state: u32, words: &mut [u6
 
 // Marks each two states of which one is the other, or leads to it by a kept choice.
 fn mark_steps<S: Source>(source: &S, flags: &[bool], words: &mut [u64])
-    requires lawful { Lawful (table source.now) }
-    requires size { 4 * (table source.now).states ≤ length words.old }
-    requires places { 16 * (table source.now).states ≤ length flags.now }
-    ensures { Shows (table source.now).states words.new (one_step (table source.now) (flag_at flags.now)) }
+    requires lawful { Lawful (S.table source.now) }
+    requires size { 4 * (S.table source.now).states ≤ length words.old }
+    requires places { 16 * (S.table source.now).states ≤ length flags.now }
+    ensures { Shows (S.table source.now).states words.new (one_step (S.table source.now) (flag_at flags.now)) }
 {
     clear(words);
     for state in 0..source.states() {
@@ -76,10 +76,10 @@ fn close(words: &mut [u64], states: usize)
 
 // Marks each two states of which one reaches the other by kept choices.
 pub(crate) fn mark_reach<S: Source>(source: &S, flags: &[bool], words: &mut [u64])
-    requires lawful { Lawful (table source.now) }
-    requires size { 4 * (table source.now).states ≤ length words.old }
-    requires places { 16 * (table source.now).states ≤ length flags.now }
-    ensures { Shows (table source.now).states words.new (reach (table source.now) (flag_at flags.now)) }
+    requires lawful { Lawful (S.table source.now) }
+    requires size { 4 * (S.table source.now).states ≤ length words.old }
+    requires places { 16 * (S.table source.now).states ≤ length flags.now }
+    ensures { Shows (S.table source.now).states words.new (reach (S.table source.now) (flag_at flags.now)) }
 {
     mark_steps(source, flags, words);
     close(words, source.states() as usize);

@@ -40,7 +40,7 @@ fn mark(lower: i64, upper: i64, width: u64) -> u64
 impl Engine {
     // An engine with the source's table at its start; an idle one if it is refused.
     pub fn open<S: Source>(heap: Global, source: &S) -> Engine
-        ensures opens { Opens (table source.now) (state_of result) }
+        ensures opens { Opens (S.table source.now) (state_of result) }
         ensures refusals { RefusalLaw }
         ensures worked { Worked }
     {
@@ -56,7 +56,7 @@ impl Engine {
 
     // Puts another table in the place of the one that is loaded. It is checked, copied and decomposed first.
     pub fn load<S: Source>(&mut self, heap: Global, source: &S) -> Result<(), Refusal>
-        ensures { Loads (table source.now) (state_of self.old) (state_of self.new) (done_answer result) }
+        ensures { Loads (S.table source.now) (state_of self.old) (state_of self.new) (done_answer result) }
     {
         let desk = Desk::open(heap, source)?;
         self.held = Held::Loaded(desk);

@@ -82,7 +82,7 @@ fn make<S: Source + Drop>(
     engine: &mut Engine,
     call: &Call<S>,
 ) -> Result<Answer, AllocError>
-    ensures { IfOk result (λ a. (memory : Bool) × Makes (call_of table call.now memory) (state_of engine.old) (state_of engine.new) (answer_of a)) }
+    ensures { IfOk result (λ a. (memory : Bool) × Makes (call_of S.table call.now memory) (state_of engine.old) (state_of engine.new) (answer_of a)) }
 {
     match call {
         Call::Load(source) => Ok(done(engine.load(heap, source))),
@@ -105,7 +105,7 @@ pub fn replay<S: Source + Drop>(
     source: &S,
     calls: &[Call<S>],
 ) -> Result<(Engine, Vec<Answer>), AllocError>
-    ensures { IfOk result (λ x. (made : List history.Call) × Stand table calls.now made × Replayed (table source.now) made (state_of x.0) (map answer_of x.1.items)) }
+    ensures { IfOk result (λ x. (made : List history.Call) × Stand S.table calls.now made × Replayed (S.table source.now) made (state_of x.0) (map answer_of x.1.items)) }
 {
     let mut engine = Engine::open(heap, source);
     let mut answers = Vec::new(heap);

@@ -12,7 +12,7 @@ use table::{Source, check};
 impl Model {
     // A copy of the source's table, if it is lawful; else the first broken limit on its walk.
     pub fn load<S: Source>(heap: Global, source: &S) -> Result<Model, LoadFault>
-        ensures { MatchResult result (Loaded (table source.now)) (RefusedLoad (table source.now)) }
+        ensures { MatchResult result (Loaded (S.table source.now)) (RefusedLoad (S.table source.now)) }
     {
         check(source)?;
         let Rows {

@@ -5,9 +5,9 @@ use table::Source;
 
 // The least and the largest reward of a table.
 pub(crate) fn extremes<S: Source>(source: &S) -> (i32, i32)
-    requires { Lawful (table source.now) }
-    ensures least { LeastReward (table source.now) result.0 }
-    ensures largest { LargestReward (table source.now) result.1 }
+    requires { Lawful (S.table source.now) }
+    ensures least { LeastReward (S.table source.now) result.0 }
+    ensures largest { LargestReward (S.table source.now) result.1 }
 {
     let mut least = source.reward(0, 0);
     let mut largest = least;

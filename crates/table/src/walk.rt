@@ -19,8 +19,8 @@ const MOST_BRANCHES: u32 = 8;
 
 // The first broken limit of the source's table, or none: then the table is lawful.
 pub fn check<S: Source>(source: &S) -> Result<(), Fault>
-    ensures decides { result ≡ verdict (fault_of (table source.now)) }
-    ensures law { WalkLaw (table source.now) }
+    ensures decides { result ≡ verdict (fault_of (S.table source.now)) }
+    ensures law { WalkLaw (S.table source.now) }
 {
     let states = source.states();
     if states < 1 || states > MOST_STATES {
@@ -38,7 +38,7 @@ pub fn check<S: Source>(source: &S) -> Result<(), Fault>
 
 // The first broken limit of one state.
 fn check_state<S: Source>(source: &S, state: u32) -> Result<(), Fault>
-    ensures { result ≡ verdict (first_broken (table source.now) (state_walk (table source.now) state)) }
+    ensures { result ≡ verdict (first_broken (S.table source.now) (state_walk (S.table source.now) state)) }
 {
     let choices = source.choices(state);
     if choices < 1 || choices > MOST_CHOICES {
@@ -71,7 +71,7 @@ fn check_state<S: Source>(source: &S, state: u32) -> Result<(), Fault>
 
 // What a choice breaks before its branches: its reward, or how many branches it has.
 fn head_fault<S: Source>(source: &S, state: u32, choice: u32) -> Option<Fault>
-    ensures { result ≡ first_broken (table source.now) (head_walk state choice) }
+    ensures { result ≡ first_broken (S.table source.now) (head_walk state choice) }
 {
     let reward = source.reward(state, choice);
     if reward < -MOST_REWARD || reward > MOST_REWARD {
@@ -86,7 +86,7 @@ fn head_fault<S: Source>(source: &S, state: u32, choice: u32) -> Option<Fault>
 
 // What a branch breaks: its successor is no state, its weight is 0, or its successor stands before.
 fn branch_fault<S: Source>(source: &S, state: u32, choice: u32, branch: u32) -> Option<Fault>
-    ensures { result ≡ first_broken (table source.now) (branch_walk state choice branch) }
+    ensures { result ≡ first_broken (S.table source.now) (branch_walk state choice branch) }
 {
     let (successor, weight) = source.branch(state, choice, branch);
     if successor >= source.states() {
@@ -115,7 +115,7 @@ fn branch_fault<S: Source>(source: &S, state: u32, choice: u32, branch: u32) -> 
 
 // Whether one of the first `count` branches of a choice leads to the state `target`.
 fn leads_to<S: Source>(source: &S, state: u32, choice: u32, count: u32, target: u32) -> bool
-    ensures { result ≡ leads_to (table source.now) state choice target count }
+    ensures { result ≡ leads_to (S.table source.now) state choice target count }
 {
     for branch in 0..count {
         let (successor, _) = source.branch(state, choice, branch);
