@@ -1,5 +1,7 @@
 // Times the copy and the decomposition of two tables: the largest one, and a chain in which each pass drops the choices
 // of one state. The counts go to standard output and the times to standard error.
+#![tactic(auto)]
+
 use decomposition::decompose;
 use model::Model;
 use sources::{ChoiceRow, List, StateRow};

@@ -1,4 +1,6 @@
 // The engine's plain inner numbers and the code that works on them.
+#![tactic(auto)]
+
 mod best;
 mod book;
 mod copy;

@@ -1,4 +1,6 @@
 // The maximal end components of a table, its nodes and their depths.
+#![tactic(auto)]
+
 ghost use Rattle.std.specs.Prelude.{◌≡◌, length};
 ghost use Rattle.components.specs.Law.{EveryLawfulTable, NodesWithin};
 ghost use Rattle.components.specs.Worked.{worked_tables, WorkedTables};

@@ -1,4 +1,6 @@
 // Command lines in, answer lines out: what a line of input means, and the bytes of every line that is answered.
+#![tactic(auto)]
+
 mod answer;
 mod command;
 mod input;

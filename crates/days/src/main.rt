@@ -1,4 +1,6 @@
 // An engine's days, every step printed: an open that is refused, a band with its bounds and plan, a refused load, and a list of calls.
+#![tactic(auto)]
+
 mod again;
 mod day;
 mod export;

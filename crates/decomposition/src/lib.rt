@@ -1,4 +1,6 @@
 // The decomposition of a table into components, inside choices and nodes.
+#![tactic(auto)]
+
 mod apart;
 mod bits;
 mod lookup;

@@ -1,4 +1,6 @@
 // The engine: a table that is loaded, its bounds and its plan, and the calls on them.
+#![tactic(auto)]
+
 mod call;
 mod calls;
 mod engine;

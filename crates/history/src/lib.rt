@@ -1,5 +1,7 @@
 // What an engine answers and holds after every call, as definitions, and the law over whole histories.
 // The law stands on the contracts of the engine's own calls (crate `engine`).
+#![tactic(auto)]
+
 mod refusal;
 
 ghost use Rattle.std.specs.Prelude.{◌≡◌};

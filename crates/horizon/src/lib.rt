@@ -1,5 +1,7 @@
 // What certificates, depths and plans say of the scaled reward over every horizon, and the two sides of a mean.
 // Each function below stands for one theorem: its contract is the theorem, and it answers the theorem's number.
+#![tactic(auto)]
+
 mod side;
 
 ghost use Rattle.std.specs.Prelude.{◌≡◌, pos};

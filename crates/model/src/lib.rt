@@ -1,4 +1,6 @@
 // The engine's own copy of a table, made from any source.
+#![tactic(auto)]
+
 mod copy;
 mod fault;
 mod load;

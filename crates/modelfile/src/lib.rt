@@ -1,4 +1,6 @@
 // The model file: from its bytes to the three lists that a list source reads.
+#![tactic(auto)]
+
 mod bytes;
 mod fault;
 mod fill;

@@ -1,4 +1,5 @@
 // Tests of the model file. The module holds no code of its own.
+#![tactic(auto)]
 
 #[cfg(test)]
 mod files;

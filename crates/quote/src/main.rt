@@ -1,4 +1,6 @@
 // Quotes of the model in model.bin: each line of standard input is answered as it comes.
+#![tactic(auto)]
+
 use console::next_line;
 use quoting::Console;
 use std::fs::File;

@@ -1,4 +1,6 @@
 // What the quote program answers, over values: a model file and an input in, lines out.
+#![tactic(auto)]
+
 mod answer;
 mod open;
 mod read;

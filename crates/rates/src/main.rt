@@ -1,5 +1,7 @@
 // Times an engine's loads, refine steps, sweeps and quotes over four tables. What the calls answered goes to standard
 // output, which is the same at each run, and the rates go to standard error.
+#![tactic(auto)]
+
 mod tables;
 mod timing;
 

@@ -1,5 +1,7 @@
 // The rules of refine, sweep and plan as definitions, and what every book that they lead to keeps.
 // Four functions below stand for one theorem each: the contract is the theorem, and the answer is the theorem's number.
+#![tactic(auto)]
+
 mod exit;
 
 ghost use Rattle.std.specs.Prelude.{◌≡◌, length};

@@ -1,5 +1,7 @@
 // Hundreds of cases from a file, one after another: whole runs of the quote program, and histories of one engine. What each
 // answers is printed below its number and the name of its group.
+#![tactic(auto)]
+
 mod answers;
 mod case_file;
 mod tables;

@@ -1,4 +1,6 @@
 // Takes some tables apart whose components were worked out by hand, and prints what was found.
+#![tactic(auto)]
+
 use decomposition::{Parts, decompose};
 use model::{LoadFault, Model};
 use sources::{ChoiceRow, List, StateRow};

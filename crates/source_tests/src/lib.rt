@@ -1,4 +1,5 @@
 // Tests of the sources and of the walk over the limits. The module holds no code of its own.
+#![tactic(auto)]
 
 #[cfg(test)]
 mod bands;

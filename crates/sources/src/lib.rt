@@ -1,4 +1,6 @@
 // The kinds of source: lists of a caller or of its own, a rehedging band, and the opposite of any source.
+#![tactic(auto)]
+
 mod band;
 mod list;
 mod opposite;

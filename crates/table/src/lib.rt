@@ -1,4 +1,6 @@
 // A table, its limits, the sources that answer from one, and the walk that finds the first broken limit.
+#![tactic(auto)]
+
 mod fault;
 mod source;
 mod walk;

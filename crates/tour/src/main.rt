@@ -1,4 +1,6 @@
 // One trading day of one programme, from its table to its bounds, every step printed.
+#![tactic(auto)]
+
 mod apart;
 mod export;
 mod show;

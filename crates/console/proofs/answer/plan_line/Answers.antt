@@ -5,16 +5,16 @@ use Rattle.console.proofs.Fields.{written_more}
 use Rattle.console.proofs.ReadBack.{answer_law}
 use Rattle.console.proofs.answer.plan_line.Goals as goal
 
-pub returns-in-err-line : goal.returns-in-err-line
-returns-in-err-line c = record { bytes = search rules; law = answer_law }
+pub returns-in_err-line : goal.returns-in_err-line
+returns-in_err-line c = record { bytes = search rules; law = answer_law }
 
-pub returns-in-err-push-number : goal.returns-in-err-push-number
-returns-in-err-push-number c = record { bytes = search rules; law = answer_law }
+pub returns-in_err-push_number : goal.returns-in_err-push_number
+returns-in_err-push_number c = record { bytes = search rules; law = answer_law }
 
 pub loop-choice-preserved : goal.loop-choice-preserved
 loop-choice-preserved c =
     written_more (80 ∷ []) (string_bytes c.loop-choice.line) _ c.args.choices.now c.loop-choice.choice-index c.from.result
-    (omega arith) (omega (arith, c.type-inv.choices c.loop-choice.choice-index)) c.from.ensures c.loop-choice.invariant c.in-ok-push-number.ensures
+    (omega arith) (omega (arith, c.type_inv.choices c.loop-choice.choice-index)) c.from.ensures c.loop-choice.invariant c.in_ok-push_number.ensures
 
 pub returns : goal.returns
 returns c =

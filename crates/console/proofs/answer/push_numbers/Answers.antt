@@ -8,7 +8,7 @@ use Rattle.console.proofs.answer.push_numbers.Goals as goal
 pub loop-number-preserved : goal.loop-number-preserved
 loop-number-preserved c =
     written_more (string_bytes c.args.line.now) (string_bytes c.loop-number.line) _ c.args.numbers.now c.loop-number.number-index c.from.result
-    (omega arith) (omega (arith, c.type-inv.numbers c.loop-number.number-index)) c.from.ensures c.loop-number.invariant c.in-ok-push-number.ensures
+    (omega arith) (omega (arith, c.type_inv.numbers c.loop-number.number-index)) c.from.ensures c.loop-number.invariant c.in_ok-push_number.ensures
 
 pub returns : goal.returns
 returns c =

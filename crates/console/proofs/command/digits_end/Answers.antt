@@ -5,13 +5,13 @@ use Rattle.console.proofs.command.digits_end.Goals as goal
 
 pub loop-end-preserved : goal.loop-end-preserved
 loop-end-preserved c =
-    let digit : is_ascii_digit (get_or c.args.line.now c.loop-end.end 0) ≡ true = cc c.if-is-ascii-digit.ensures.value in
+    let digit : is_ascii_digit (get_or c.args.line.now c.loop-end.end 0) ≡ true = cc c.if-is_ascii_digit.ensures.value in
     let more = run_more c.args.line.now c.loop-end.end (omega arith) digit in
     omega (arith, c.loop-end.invariant)
 
-pub returns-else-is-ascii-digit : goal.returns-else-is-ascii-digit
-returns-else-is-ascii-digit c =
-    let other : is_ascii_digit (get_or c.args.line.now c.loop-end.end 0) ≡ false = cc c.if-is-ascii-digit.ensures.value in
+pub returns-else-is_ascii_digit : goal.returns-else-is_ascii_digit
+returns-else-is_ascii_digit c =
+    let other : is_ascii_digit (get_or c.args.line.now c.loop-end.end 0) ≡ false = cc c.if-is_ascii_digit.ensures.value in
     let end = run_end c.args.line.now c.loop-end.end (omega arith) other in
     omega (arith, c.loop-end.invariant)
 

@@ -4,16 +4,16 @@ use Rattle.std.specs.Str.Parse.{digits_value}
 use Rattle.console.proofs.Figures.{digit_in, number_more, number_small}
 use Rattle.console.proofs.command.number.Goals as goal
 
-pub overflow-sub-digit : goal.overflow-sub-digit
-overflow-sub-digit c = omega (arith, digit_in c.args.digits.now c.loop-digit.digit-index c.requires.digits (omega arith))
+pub overflow_sub-digit : goal.overflow_sub-digit
+overflow_sub-digit c = omega (arith, digit_in c.args.digits.now c.loop-digit.digit-index c.requires.digits (omega arith))
 
-pub overflow-mul-number : goal.overflow-mul-number
-overflow-mul-number c =
+pub overflow_mul-number : goal.overflow_mul-number
+overflow_mul-number c =
     let small = number_small c.args.digits.now c.loop-digit.digit-index c.requires.digits c.requires.few (omega arith) in
     omega arith
 
-pub overflow-add-number : goal.overflow-add-number
-overflow-add-number c =
+pub overflow_add-number : goal.overflow_add-number
+overflow_add-number c =
     let small = number_small c.args.digits.now c.loop-digit.digit-index c.requires.digits c.requires.few (omega arith) in
     let digit = digit_in c.args.digits.now c.loop-digit.digit-index c.requires.digits (omega arith) in
     omega (arith, c.from.ensures)

@@ -24,16 +24,16 @@ pub loop-state-preserved : goal.loop-state-preserved
 loop-state-preserved g c =
     let T : Table = g.S.Source.table c.args.source.now in
     let i : ℕ = c.loop-state.state in
-    let passed : verdict (first_broken T (state_walk T i)) ≡ Ok tt = sym c.in-ok-check-state.ensures in
+    let passed : verdict (first_broken T (state_walk T i)) ≡ Ok tt = sym c.in_ok-check_state.ensures in
     clear_more T (state_walk T) i c.loop-state.invariant (verdict_none (first_broken T (state_walk T i)) passed)
 
-pub returns-in-err-check-state : goal.returns-in-err-check-state
-returns-in-err-check-state g c =
+pub returns-in_err-check_state : goal.returns-in_err-check_state
+returns-in_err-check_state g c =
     let T : Table = g.S.Source.table c.args.source.now in
     let i : ℕ = c.loop-state.state in
-    let p = err_from_is_err_and c.from-residual.result c.from-residual.ensures.1 in
-    let e : Fault = c.in-err-check-state.field-0.0 in
-    let failed : verdict (first_broken T (state_walk T i)) ≡ Err e = sym c.in-err-check-state.ensures in
+    let p = err_from_is_err_and c.from_residual.result c.from_residual.ensures.1 in
+    let e : Fault = c.in_err-check_state.field-0.0 in
+    let failed : verdict (first_broken T (state_walk T i)) ≡ Err e = sym c.in_err-check_state.ensures in
     let here = found_at T (state_walk T) i T.states e (omega arith) c.loop-state.invariant (verdict_some (first_broken T (state_walk T i)) e failed) in
     let whole = past_denominator T (omega arith, omega arith) (omega arith, omega arith) ∙ here in
     record { decides = p.1 ∙ ap Err p.2 ∙ sym (ap verdict whole); law = walk_law T }

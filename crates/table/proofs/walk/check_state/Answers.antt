@@ -7,7 +7,7 @@ use Rattle.table.specs.Law.{verdict}
 use Rattle.table.specs.declared.fault.Fault.TheVariants.{Choices, Sum}
 use Rattle.table.proofs.Walks.{sum_more, clear_more, found_at, choice_head, choice_branch, choice_sum, choice_clear}
 use Rattle.table.proofs.walk.check_state.Goals as goal
-use Rattle.table.proofs.walk.check_state.Goals.{then-loop-choice-test+in-Some, then-loop-choice-test+in-default+then-loop-branch-test+in-Some-branch-fault, then-loop-choice-test+in-default+else-loop-branch-test+then-sum-from, else-loop-choice-test}
+use Rattle.table.proofs.walk.check_state.Goals.{then-loop-choice-test+in-Some, then-loop-choice-test+in_default+then-loop-branch-test+in-Some-branch_fault, then-loop-choice-test+in_default+else-loop-branch-test+then-sum-from, else-loop-choice-test}
 
 pub loop-branch-preserved : goal.loop-branch-preserved
 loop-branch-preserved g c =
@@ -48,12 +48,12 @@ found g c =
       | then-loop-choice-test+in-Some w ↦ (
           let head : first_broken T (head_walk s i) ≡ Some c.in-Some-found.fault = cc in
           at (omega arith) (choice_head T s i c.in-Some-found.fault head))
-      | then-loop-choice-test+in-default+then-loop-branch-test+in-Some-branch-fault w ↦ (
+      | then-loop-choice-test+in_default+then-loop-branch-test+in-Some-branch_fault w ↦ (
           let head : first_broken T (head_walk s i) ≡ None = cc in
           let b : ℕ = w.loop-branch.branch in
           let hit : first_broken T (branch_walk s i b) ≡ Some c.in-Some-found.fault = cc in
           at (omega arith) (choice_branch T s i b c.in-Some-found.fault head (omega arith) w.loop-branch.invariant.0 hit))
-      | then-loop-choice-test+in-default+else-loop-branch-test+then-sum-from w ↦ (
+      | then-loop-choice-test+in_default+else-loop-branch-test+then-sum-from w ↦ (
           let head : first_broken T (head_walk s i) ≡ None = cc in
           let end : w.loop-branch.branch ≡ T.branches s i = omega arith in
           let clear : first_broken T (each (T.branches s i) (branch_walk s i)) ≡ None = cc in
