@@ -7,11 +7,11 @@ pub loop-state-preserved : goal.loop-state-preserved
 loop-state-preserved g c =
     let T : Table = g.S.Source.table c.args.source.now in
     states_more T c.loop-state.state _ (vec_items c.loop-state.states) (vec_items c.push.new.self)
-    (vec_items c.loop-state.choices) (vec_items c.copy-choices.new.choices)
-    (vec_items c.loop-state.branches) (vec_items c.copy-choices.new.branches) c.loop-state.invariant
-    c.in-ok-copy-choices.ensures
+    (vec_items c.loop-state.choices) (vec_items c.copy_choices.new.choices)
+    (vec_items c.loop-state.branches) (vec_items c.copy_choices.new.branches) c.loop-state.invariant
+    c.in_ok-copy_choices.ensures
     (c.requires.choices c.loop-state.state (omega arith)).1
-    c.in-ok-push.ensures.items
+    c.in_ok-push.ensures.items
     (c.len-first.ensures ∙ c.loop-state.choices.ok.0) c.choices-count.ensures
 
 pub returns : goal.returns

@@ -12,4 +12,4 @@ loop-choice-preserved g c =
     let n = c.max-largest.ensures in
     simp to_z-of_z
     (among_more c.loop-choice.invariant (omega arith) (omega arith) (simp to_z-of_z c.reward-reward.ensures)
-    m.value m.self-bound m.other-bound n.value n.self-bound n.other-bound)
+    m.value m.self_bound m.other_bound n.value n.self_bound n.other_bound)

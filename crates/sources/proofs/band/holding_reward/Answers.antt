@@ -4,18 +4,18 @@ use Rattle.std.proofs.lemmas.Int.{ints}
 use Rattle.sources.specs.Bands.{distance}
 use Rattle.sources.proofs.band.holding_reward.Goals as goal
 
-pub overflow-cast-result : goal.overflow-cast-result
-overflow-cast-result c =
-    let m : c.args.cost * c.abs-diff.result ≤ 7000 * 256 = mul-le c.args.cost c.abs-diff.result 7000 256 (omega arith) (omega arith) in
+pub overflow_cast-result : goal.overflow_cast-result
+overflow_cast-result c =
+    let m : c.args.cost * c.abs_diff.result ≤ 7000 * 256 = mul-le c.args.cost c.abs_diff.result 7000 256 (omega arith) (omega arith) in
     omega (arith, ints)
 
-pub overflow-sub-result : goal.overflow-sub-result
-overflow-sub-result c =
-    let m : c.args.cost * c.abs-diff.result ≤ 7000 * 256 = mul-le c.args.cost c.abs-diff.result 7000 256 (omega arith) (omega arith) in
+pub overflow_sub-result : goal.overflow_sub-result
+overflow_sub-result c =
+    let m : c.args.cost * c.abs_diff.result ≤ 7000 * 256 = mul-le c.args.cost c.abs_diff.result 7000 256 (omega arith) (omega arith) in
     omega (arith, ints)
 
 pub returns : goal.returns
 returns c =
-    let m : c.args.cost * c.abs-diff.result ≤ 7000 * 256 = mul-le c.args.cost c.abs-diff.result 7000 256 (omega arith) (omega arith) in
-    let q : c.args.cost * c.abs-diff.result ≡ c.args.cost * distance c.args.half c.args.state = ap (λ (d : ℕ). c.args.cost * d) c.abs-diff.ensures in
+    let m : c.args.cost * c.abs_diff.result ≤ 7000 * 256 = mul-le c.args.cost c.abs_diff.result 7000 256 (omega arith) (omega arith) in
+    let q : c.args.cost * c.abs_diff.result ≡ c.args.cost * distance c.args.half c.args.state = ap (λ (d : ℕ). c.args.cost * d) c.abs_diff.ensures in
     omega (arith, ints)

@@ -30,8 +30,8 @@ stepped c =
 pub returns-then-denominator-eq0 : goal.returns-then-denominator-eq0
 returns-then-denominator-eq0 c = down_none c.args.total c.args.denominator c.if-denominator-eq0.true
 
-pub overflow-sub-result : goal.overflow-sub-result
-overflow-sub-result c = let k = stepped c in let q = k.0 in let m = k.1 in let f = k.2 in let g = k.3 in omega (arith, ints)
+pub overflow_sub-result : goal.overflow_sub-result
+overflow_sub-result c = let k = stepped c in let q = k.0 in let m = k.1 in let f = k.2 in let g = k.3 in omega (arith, ints)
 
 pub returns-then-total-divisor-lt0 : goal.returns-then-total-divisor-lt0
 returns-then-total-divisor-lt0 c = let k = stepped c in let q = k.0 in let m = k.1 in let f = k.2 in let g = k.3 in omega (arith, ints)

@@ -30,8 +30,8 @@ stepped c =
 pub returns-then-denominator-eq0 : goal.returns-then-denominator-eq0
 returns-then-denominator-eq0 c = up_none c.args.total c.args.denominator c.if-denominator-eq0.true
 
-pub overflow-add-result : goal.overflow-add-result
-overflow-add-result c = let k = stepped c in let q = k.0 in let m = k.1 in let f = k.2 in let g = k.3 in omega (arith, ints)
+pub overflow_add-result : goal.overflow_add-result
+overflow_add-result c = let k = stepped c in let q = k.0 in let m = k.1 in let f = k.2 in let g = k.3 in omega (arith, ints)
 
 pub returns-then-total-divisor-gt0 : goal.returns-then-total-divisor-gt0
 returns-then-total-divisor-gt0 c = let k = stepped c in let q = k.0 in let m = k.1 in let f = k.2 in let g = k.3 in omega (arith, ints)

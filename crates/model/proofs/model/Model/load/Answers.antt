@@ -8,26 +8,26 @@ use Rattle.model.proofs.Loading.{verdict_ok, want_of_memory}
 use Rattle.model.proofs.Copies.{copied_table}
 use Rattle.model.proofs.model.Model.load.Goals as goal
 
-pub copy-states-requires : goal.copy-states-requires
-copy-states-requires g c =
+pub copy_states-requires : goal.copy_states-requires
+copy_states-requires g c =
     let T : Table = g.S.Source.table c.args.source.now in
-    let e = c.in-ok-check.ensures in
+    let e = c.in_ok-check.ensures in
     e.law.lawful.0 (verdict_ok (fault_of T) (sym e.decides))
 
-pub returns-in-err-states : goal.returns-in-err-states
-returns-in-err-states g c =
+pub returns-in_err-states : goal.returns-in_err-states
+returns-in_err-states g c =
     let T : Table = g.S.Source.table c.args.source.now in
-    let p = err_from_is_err_and c.from-residual-in-err-states.result c.from-residual-in-err-states.ensures.1 in
-    let e = c.in-ok-check.ensures in
-    want_of_memory T c.from-residual-in-err-states.result (p.1 ∙ ap Err (p.2 ∙ c.in-err-states.ensures))
+    let p = err_from_is_err_and c.from_residual-in_err-states.result c.from_residual-in_err-states.ensures.1 in
+    let e = c.in_ok-check.ensures in
+    want_of_memory T c.from_residual-in_err-states.result (p.1 ∙ ap Err (p.2 ∙ c.in_err-states.ensures))
     (verdict_ok (fault_of T) (sym e.decides))
 
 pub returns : goal.returns
 returns g c =
     let T : Table = g.S.Source.table c.args.source.now in
-    let e = c.in-ok-check.ensures in
-    let rows = c.in-ok-states.field-0 in
-    let copied = c.in-ok-states.ensures in
+    let e = c.in_ok-check.ensures in
+    let rows = c.in_ok-states.field-0 in
+    let copied = c.in_ok-states.ensures in
     let f₁ : SFits w32 c.extremes-least.result.0 = search rules in
     let f₂ : SFits w32 c.extremes-least.result.1 = search rules in
     record {

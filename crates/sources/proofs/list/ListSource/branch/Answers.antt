@@ -8,8 +8,8 @@ pub returns-then-branch-places : goal.returns-then-branch-places
 returns-then-branch-places c =
     let rows : List (ℕ × ℕ) = c.args.self.now.branches.now in
     let b : ℕ = c.args.branch in
-    let row : ChoiceRow = c.choice-row-row.result in
+    let row : ChoiceRow = c.choice_row-row.result in
     let size : ChoiceRow → ℕ = λ r. run r.first r.count (length rows) in
     let inside : b < size row = omega arith in
     cond_below b (size row) (get_or rows (row.first + b) (0, 0)) (0, 0) inside
-    ∙ ap (λ (r : ChoiceRow). cond (ltb b (size r)) (get_or rows (r.first + b) (0, 0)) (0, 0)) c.choice-row-row.ensures
+    ∙ ap (λ (r : ChoiceRow). cond (ltb b (size r)) (get_or rows (r.first + b) (0, 0)) (0, 0)) c.choice_row-row.ensures
