@@ -11,6 +11,6 @@ returns g c =
     record {
       kept = c.settle.ensures;
       reached = λ s t h k.
-          c.mark-reach.ensures s t h k
+          c.mark_reach.ensures s t h k
           ∙ reach_same T c.requires.lawful (flag_at c.settle.new.flags) (inside T) c.settle.ensures s t h;
     }

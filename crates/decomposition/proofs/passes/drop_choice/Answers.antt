@@ -7,13 +7,13 @@ returns-then-not-flags-place g c =
     choice_absent (g.S.Source.table c.args.source.now) c.args.words.now c.args.state c.args.choice c.args.flags.now
     c.if-not-flags-place.true
 
-pub returns-then-leads-back : goal.returns-then-leads-back
-returns-then-leads-back g c =
+pub returns-then-leads_back : goal.returns-then-leads_back
+returns-then-leads_back g c =
     choice_stays (g.S.Source.table c.args.source.now) c.args.words.now c.args.state c.args.choice c.args.flags.now
-    c.if-not-flags-place.false (sym c.leads-back.ensures ∙ c.if-leads-back.true)
+    c.if-not-flags-place.false (sym c.leads_back.ensures ∙ c.if-leads_back.true)
 
 pub returns : goal.returns
 returns g c =
     let few = (c.requires.lawful.choices c.args.state c.requires.choice.state).1 in
     choice_goes (g.S.Source.table c.args.source.now) c.args.words.now c.args.state c.args.choice c.args.flags.now
-    (omega arith) (sym c.leads-back.ensures ∙ c.if-leads-back.false)
+    (omega arith) (sym c.leads_back.ensures ∙ c.if-leads_back.false)

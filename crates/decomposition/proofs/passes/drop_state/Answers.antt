@@ -2,13 +2,13 @@ use Rattle.std.proofs.Common.{◌≡◌, ◌<◌, inl, inr, arith}
 use Rattle.table.specs.Table.{Table}
 use Rattle.decomposition.proofs.Drops.{state_none, state_more}
 use Rattle.decomposition.proofs.passes.drop_state.Goals as goal
-use Rattle.decomposition.proofs.passes.drop_state.Goals.{then-drop-choice, else-drop-choice}
+use Rattle.decomposition.proofs.passes.drop_state.Goals.{then-drop_choice, else-drop_choice}
 
 pub loop-choice-init : goal.loop-choice-init
 loop-choice-init g c = state_none (g.S.Source.table c.args.source.now) c.args.words.now c.args.state c.args.flags.now
 
-pub drop-choice-requires : goal.drop-choice-requires
-drop-choice-requires g c =
+pub drop_choice-requires : goal.drop_choice-requires
+drop_choice-requires g c =
     let h : c.loop-choice.choice < (g.S.Source.table c.args.source.now).choices c.args.state = omega (arith, c.choices-choice-end.ensures) in
     record {
       lawful = c.requires.lawful;
@@ -19,9 +19,9 @@ drop-choice-requires g c =
 
 pub loop-choice-preserved : goal.loop-choice-preserved
 loop-choice-preserved g c =
-    elim c.if-drop-choice.branch [
-      | then-drop-choice w ↦ state_more c.loop-choice.invariant c.drop-choice.ensures (inl (w.if-drop-choice.true, w.changed-is))
-      | else-drop-choice w ↦ state_more c.loop-choice.invariant c.drop-choice.ensures (inr (w.if-drop-choice.false, w.changed-is))
+    elim c.if-drop_choice.branch [
+      | then-drop_choice w ↦ state_more c.loop-choice.invariant c.drop_choice.ensures (inl (w.if-drop_choice.true, w.changed-is))
+      | else-drop_choice w ↦ state_more c.loop-choice.invariant c.drop_choice.ensures (inr (w.if-drop_choice.false, w.changed-is))
     ]
 
 pub returns : goal.returns

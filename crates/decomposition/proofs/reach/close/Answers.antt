@@ -10,5 +10,5 @@ loop-middle-init c = λ s t h k. refl
 
 pub loop-middle-preserved : goal.loop-middle-preserved
 loop-middle-preserved c =
-    closing_more c.args.states c.loop-middle.words c.close-through.new.words (bit_at c.args.words.now) c.loop-middle.middle
-    (omega arith) c.loop-middle.invariant c.close-through.ensures
+    closing_more c.args.states c.loop-middle.words c.close_through.new.words (bit_at c.args.words.now) c.loop-middle.middle
+    (omega arith) c.loop-middle.invariant c.close_through.ensures

@@ -6,8 +6,8 @@ use Rattle.decomposition.proofs.reach.mark_choice.Goals as goal
 pub loop-branch-init : goal.loop-branch-init
 loop-branch-init g c = marks_none c.args.words.now c.args.state
 
-pub set-bit-requires : goal.set-bit-requires
-set-bit-requires g c =
+pub set_bit-requires : goal.set_bit-requires
+set_bit-requires g c =
     let T : Table = g.S.Source.table c.args.source.now in
     let s : ℕ = c.args.state in
     let d : ℕ = c.args.choice in
@@ -23,7 +23,7 @@ pub loop-branch-preserved : goal.loop-branch-preserved
 loop-branch-preserved g c =
     let T : Table = g.S.Source.table c.args.source.now in
     branch_more T c.args.state c.args.choice c.loop-branch.branch c.branch-successor.result.0
-    c.args.words.now c.loop-branch.words c.set-bit.new.words c.loop-branch.invariant c.set-bit.ensures
+    c.args.words.now c.loop-branch.words c.set_bit.new.words c.loop-branch.invariant c.set_bit.ensures
     (ap (λ (x : ℕ × ℕ). x.0) c.branch-successor.ensures)
 
 pub returns : goal.returns

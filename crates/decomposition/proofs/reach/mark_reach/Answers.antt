@@ -6,5 +6,5 @@ use Rattle.decomposition.proofs.reach.mark_reach.Goals as goal
 pub returns : goal.returns
 returns g c =
     let T : Table = g.S.Source.table c.args.source.now in
-    reach_shown T (flag_at c.args.flags.now) c.mark-steps.new.words c.mark-steps.ensures c.close.new.words
+    reach_shown T (flag_at c.args.flags.now) c.mark_steps.new.words c.mark_steps.ensures c.close.new.words
     (rw c.states.ensures.value at c.close.ensures)

@@ -8,8 +8,8 @@ pub loop-state-init : goal.loop-state-init
 loop-state-init g c =
     rows_none (g.S.Source.table c.args.source.now) (flag_at c.args.flags.now) c.clear.new.words c.clear.ensures
 
-pub mark-state-requires : goal.mark-state-requires
-mark-state-requires g c = record {
+pub mark_state-requires : goal.mark_state-requires
+mark_state-requires g c = record {
   lawful = c.requires.lawful;
   within = omega (arith, c.states-state-end.ensures.value);
   size = omega arith;
@@ -19,7 +19,7 @@ mark-state-requires g c = record {
 pub loop-state-preserved : goal.loop-state-preserved
 loop-state-preserved g c =
     rows_more (g.S.Source.table c.args.source.now) (flag_at c.args.flags.now) c.loop-state.state c.loop-state.words
-    c.mark-state.new.words c.loop-state.invariant c.mark-state.ensures
+    c.mark_state.new.words c.loop-state.invariant c.mark_state.ensures
 
 pub returns : goal.returns
 returns g c =

@@ -7,26 +7,26 @@ use Rattle.modelfile.specs.declared.fault.ByteFault.{ByteFault}
 use Rattle.modelfile.proofs.Fields.{then_ok, run_ok, run_err, list_cut}
 use Rattle.modelfile.proofs.bytes.branches.Goals as goal
 
-pub returns-in-err-end : goal.returns-in-err-end
-returns-in-err-end c =
+pub returns-in_err-end : goal.returns-in_err-end
+returns-in_err-end c =
     let file : List ℕ = c.args.file.now in
-    let k : ℕ = c.in-ok-count.count in
-    let first : ℕ = c.in-ok-count.first in
-    let e : ByteFault = c.in-err-end.field-0.0 in
-    let p = err_from_is_err_and c.from-residual-in-err-end.result c.from-residual-in-err-end.ensures.1 in
-    let head : number 1 file c.args.at ≡ Ok (k, first) = sym c.in-ok-count.ensures.value in
-    let here : branch file c.loop-i.next ≡ Err e = sym c.in-err-end.ensures in
-    let at : branch file (first + 6 * c.loop-i.-i) ≡ Err e = ap (branch file) (sym c.loop-i.invariant.0) ∙ here in
-    let failed : branch_run k file first ≡ Err e = run_err file k c.loop-i.-i first e (omega arith) (omega arith) at in
+    let k : ℕ = c.in_ok-count.count in
+    let first : ℕ = c.in_ok-count.first in
+    let e : ByteFault = c.in_err-end.field-0.0 in
+    let p = err_from_is_err_and c.from_residual-in_err-end.result c.from_residual-in_err-end.ensures.1 in
+    let head : number 1 file c.args.at ≡ Ok (k, first) = sym c.in_ok-count.ensures.value in
+    let here : branch file c.loop-i.next ≡ Err e = sym c.in_err-end.ensures in
+    let at : branch file (first + 6 * c.loop-i._i) ≡ Err e = ap (branch file) (sym c.loop-i.invariant.0) ∙ here in
+    let failed : branch_run k file first ≡ Err e = run_err file k c.loop-i._i first e (omega arith) (omega arith) at in
     ap held_branches p.1 ∙ ap Err p.2 ∙ sym (then_ok (λ n. branch_run n.0 file n.1) head ∙ failed)
 
 pub returns : goal.returns
 returns c =
     let file : List ℕ = c.args.file.now in
-    let k : ℕ = c.in-ok-count.count in
-    let first : ℕ = c.in-ok-count.first in
+    let k : ℕ = c.in_ok-count.count in
+    let first : ℕ = c.in_ok-count.first in
     let next : ℕ = c.loop-i.next in
-    let head : number 1 file c.args.at ≡ Ok (k, first) = sym c.in-ok-count.ensures.value in
+    let head : number 1 file c.args.at ≡ Ok (k, first) = sym c.in_ok-count.ensures.value in
     let all : next ≡ first + 6 * k = omega arith in
     let whole : branch_run k file first ≡ Ok (branch_list k (drop first file), next) =
     run_ok file k first (omega arith) ∙ ap (λ (q : ℕ). Ok (branch_list k (drop first file), q)) (sym all) in

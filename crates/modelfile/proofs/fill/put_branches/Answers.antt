@@ -4,7 +4,7 @@ use Rattle.modelfile.specs.Filling.{fill}
 use Rattle.modelfile.proofs.Fields.{branch_ok}
 use Rattle.modelfile.proofs.Fills.{list_long, fill_branch}
 use Rattle.modelfile.proofs.fill.put_branches.Goals as goal
-use Rattle.modelfile.proofs.fill.put_branches.Goals.{in-Ok-row, in-default-row}
+use Rattle.modelfile.proofs.fill.put_branches.Goals.{in_Ok-row, in_default-row}
 
 pub loop-i-preserved : goal.loop-i-preserved
 loop-i-preserved c =
@@ -15,16 +15,16 @@ loop-i-preserved c =
     let rest : List (ℕ × ℕ) = branch_list (k - (i + 1)) (drop (6 * (i + 1)) bytes) in
     let room : 6 * k ≤ length bytes = omega arith in
     elim c.match-branch.branch [
-      | in-Ok-row w ↦ (
-          let list : c.match-branch.list ≡ set c.loop-i.list (first + i) w.in-Ok-row.row = w.list-is ∙ w.put.ensures in
+      | in_Ok-row w ↦ (
+          let list : c.match-branch.list ≡ set c.loop-i.list (first + i) w.in_Ok-row.row = w.list-is ∙ w.put.ensures in
           ap (λ (l : List (ℕ × ℕ)). fill rest (first + (i + 1)) l) list
-          ∙ fill_branch bytes k i first c.loop-i.list w.in-Ok-row.row w.in-Ok-row.field-0-1 (omega arith) room (sym w.in-Ok-row.ensures)
+          ∙ fill_branch bytes k i first c.loop-i.list w.in_Ok-row.row w.in_Ok-row.field-0-1 (omega arith) room (sym w.in_Ok-row.ensures)
           ∙ c.loop-i.invariant)
-      | in-default-row w ↦ absurd (w.in-default-row.not-Ok _ (c.branch-row.ensures ∙ branch_ok bytes (6 * i) (omega arith)))
+      | in_default-row w ↦ absurd (w.in_default-row.not-Ok _ (c.branch-row.ensures ∙ branch_ok bytes (6 * i) (omega arith)))
     ]
 
-pub overflow-cast-result : goal.overflow-cast-result
-overflow-cast-result c = let k = list_long (length c.args.bytes.now / 6) c.args.bytes.now in omega arith
+pub overflow_cast-result : goal.overflow_cast-result
+overflow_cast-result c = let k = list_long (length c.args.bytes.now / 6) c.args.bytes.now in omega arith
 
 pub returns : goal.returns
 returns c =

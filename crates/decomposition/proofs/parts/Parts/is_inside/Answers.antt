@@ -4,8 +4,8 @@ use Rattle.std.proofs.lemmas.Bool.{and_left, and_right, lt-ltb, le-ltb}
 use Rattle.decomposition.specs.Marking.{flag_at}
 use Rattle.decomposition.proofs.parts.Parts.is_inside.Goals as goal
 
-pub returns-then-choice-ge-MOST-CHOICES : goal.returns-then-choice-ge-MOST-CHOICES
-returns-then-choice-ge-MOST-CHOICES c =
+pub returns-then-choice-ge-MOST_CHOICES : goal.returns-then-choice-ge-MOST_CHOICES
+returns-then-choice-ge-MOST_CHOICES c =
     sym (and_left (ltb c.args.choice 16) (flag_at (vec_items c.args.self.now.inside) c.args.state c.args.choice)
     (le-ltb c.args.choice 16 (omega arith)))
 
