@@ -1,6 +1,6 @@
 -- Tests and folds in general.
 use Rattle.std.proofs.Common.{◌≡◌, ℕ, zero, suc, ◌+◌, ◌<◌, Bool, true, false, cond, ◌&&◌, List, [], ◌∷◌, ◌++◌, length, get_or, fold, filter, refl, ap, ◌∙◌, arith}
-use Rattle.std.specs.List.{range_with_len, AllByRecursion as All}
+use Rattle.std.specs.List.{range_with_len, AllByRecursion}
 use Rattle.std.proofs.lemmas.List.{append-nil}
 use Rattle.std.proofs.lemmas.List.Sums.{fold_push}
 use Rattle.std.proofs.lemmas.List.Elements.{filter-append}
@@ -22,7 +22,7 @@ counting_last a (suc n) j e = ap (λ (l : List ℕ). a ∷ l) (counting_last (a 
 -- each number that is kept of those below n is below n
 pub kept_below : (p : ℕ → Bool) (n i : ℕ) → i < length (filter p (range_with_len 0 n)) → get_or (filter p (range_with_len 0 n)) i 0 < n
 kept_below p n i h =
-    let below : All (λ k. k < n) (range_with_len 0 n) =
+    let below : AllByRecursion (λ k. k < n) (range_with_len 0 n) =
     All-from_get_or (λ k. k < n) (range_with_len 0 n) 0 (λ k l. let c = length-range_with_len 0 n in let d = get_or-range_with_len 0 n k 0 (omega arith) in omega arith) in
     All-get_or (λ k. k < n) (filter p (range_with_len 0 n)) i 0 h (all_kept_by p (λ k. k < n) (range_with_len 0 n) below)
 

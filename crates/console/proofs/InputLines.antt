@@ -2,7 +2,7 @@
 use Rattle.std.proofs.Common.{◌≡◌, ℕ, suc, ◌+◌, ◌-◌, ◌<◌, ◌≤◌, Bool, true, false, cond, eqb, ltb, List, [], ◌∷◌, ◌++◌, length, take, drop, Some, None, sym, refl, ap, ◌∙◌, inl, inr, arith, length-drop}
 use Rattle.std.proofs.lemmas.List.{drop_all, drop-drop}
 use Rattle.std.proofs.lemmas.Bool.{cases_lt, cond-true, cond-false, cond_both, eqb-true, eqb-false, lt-ltb, le-ltb, ltb-false}
-use Rattle.std.specs.List.{flat_map, AllByRecursion as All}
+use Rattle.std.specs.List.{flat_map, AllByRecursion}
 use Rattle.console.specs.Lines.{up_to}
 use Rattle.console.specs.Inputs.{line_end, next_line, extended, lines_of, missing, lines_by, LinesLaw}
 
@@ -50,7 +50,7 @@ whole (b ∷ c ∷ bs) =
 
 -- no line feed in any line
 abbrev Unfed : List (List ℕ) → Type 0
-Unfed lines = All (λ line. All (λ b. b ≡ 10 → ⊥) line) lines
+Unfed lines = AllByRecursion (λ line. AllByRecursion (λ b. b ≡ 10 → ⊥) line) lines
 
 unfed_extended : (b : ℕ) (lines : List (List ℕ)) → (b ≡ 10 → ⊥) → Unfed lines → Unfed (extended b lines)
 unfed_extended b [] h u = ((h, tt), tt)

@@ -6,7 +6,7 @@ use Rattle.std.proofs.lemmas.Bool.{and_parts, cond-false, leb-true, ne_eqb}
 use Rattle.std.specs.Str.Parse.{digits_value}
 use Rattle.std.specs.Char.{is_ascii_digit}
 use Rattle.std.specs.Fmt.{signed_decimal}
-use Rattle.std.specs.List.{ContainsAt as Has, AllByRecursion as All}
+use Rattle.std.specs.List.{ContainsAt as Has, AllByRecursion}
 use Rattle.std.specs.Str.{all_ascii_digits}
 use Rattle.console.specs.Lines.{up_to, line_of, answer_line, fields_of, number_in, Small, letters, AnswerLaw}
 use Rattle.console.proofs.Fields.{spaced, line_spaced}
@@ -14,7 +14,7 @@ use Rattle.console.proofs.Figures.{own}
 
 -- no blank among the bytes
 abbrev Clear : List ℕ → Type 0
-Clear bs = All (λ b. eqb b 32 ≡ false) bs
+Clear bs = AllByRecursion (λ b. eqb b 32 ≡ false) bs
 
 at_least : (b : ℕ) → is_ascii_digit b ≡ true → 48 ≤ b
 at_least b h = leb-true 48 b (and_parts (leb 48 b) (leb b 57) h).0
@@ -30,7 +30,7 @@ clear_signed : (z : ℤ) → Small z → Clear (signed_decimal z)
 clear_signed (pos n) h = clear_digits (decimal n) (digits_decimal own n h)
 clear_signed (negsuc n) h = (refl, clear_digits (decimal (suc n)) (digits_decimal own (suc n) h))
 
-clear_all : (zs : List ℤ) → All Small zs → All Clear (map signed_decimal zs)
+clear_all : (zs : List ℤ) → AllByRecursion Small zs → AllByRecursion Clear (map signed_decimal zs)
 clear_all [] h = tt
 clear_all (z ∷ zs) h = (clear_signed z h.0, clear_all zs h.1)
 
@@ -48,7 +48,7 @@ past : (f rest : List ℕ) → Clear f → fields_of (f ++ rest) ≡ fields_of r
 past [] rest h = refl
 past (b ∷ bs) rest h = cond-false (eqb b 32) (up_to 32 (bs ++ rest) ∷ fields_of (bs ++ rest)) (fields_of (bs ++ rest)) h.0 ∙ past bs rest h.1
 
-fields_spaced : (fields : List (List ℕ)) → All Clear fields → fields_of (spaced fields) ≡ fields
+fields_spaced : (fields : List (List ℕ)) → AllByRecursion Clear fields → fields_of (spaced fields) ≡ fields
 fields_spaced [] h = refl
 fields_spaced (f ∷ fs) h =
     ap (λ x. x ∷ fields_of (f ++ spaced fs)) (word f fs h.0) ∙ ap (λ xs. f ∷ xs) (past f (spaced fs) h.0 ∙ fields_spaced fs h.1)
@@ -63,7 +63,7 @@ number_signed : (z : ℤ) → Small z → number_in (signed_decimal z) ≡ z
 number_signed (pos n) h = number_digits (decimal n) (digits_decimal own n h) ∙ ap pos (digits_value-decimal own n h)
 number_signed (negsuc n) h = ap (λ v. neg_ℤ (pos v)) (digits_value-decimal own (suc n) h)
 
-numbers_signed : (zs : List ℤ) → All Small zs → map number_in (map signed_decimal zs) ≡ zs
+numbers_signed : (zs : List ℤ) → AllByRecursion Small zs → map number_in (map signed_decimal zs) ≡ zs
 numbers_signed [] h = refl
 numbers_signed (z ∷ zs) h = ap (λ x. x ∷ map number_in (map signed_decimal zs)) (number_signed z h.0) ∙ ap (λ xs. z ∷ xs) (numbers_signed zs h.1)
 
@@ -80,14 +80,14 @@ first letter zs h =
     ∙ cond-false (eqb letter 32) [] (letter ∷ up_to 32 (spaced (map signed_decimal zs))) (no_blank letter h)
     ∙ ap (λ xs. letter ∷ xs) (word_end (map signed_decimal zs))
 
-fields : (letter : ℕ) (numbers : List ℤ) → Has letters letter → All Small numbers → map number_in (fields_of (answer_line letter numbers)) ≡ numbers
+fields : (letter : ℕ) (numbers : List ℤ) → Has letters letter → AllByRecursion Small numbers → map number_in (fields_of (answer_line letter numbers)) ≡ numbers
 fields letter zs h small =
     ap (map number_in) (ap fields_of (line_spaced (letter ∷ []) (map signed_decimal zs))
     ∙ past (letter ∷ []) (spaced (map signed_decimal zs)) (no_blank letter h, tt)
     ∙ fields_spaced (map signed_decimal zs) (clear_all zs small))
     ∙ numbers_signed zs small
 
-told : (letter other : ℕ) (numbers others : List ℤ) → Has letters letter → Has letters other → All Small numbers → All Small others
+told : (letter other : ℕ) (numbers others : List ℤ) → Has letters letter → Has letters other → AllByRecursion Small numbers → AllByRecursion Small others
     → answer_line letter numbers ≡ answer_line other others → (letter ≡ other) × (numbers ≡ others)
 told b d ys zs hb hd sy sz e =
     let front : b ∷ [] ≡ d ∷ [] = sym (first b ys hb) ∙ ap (up_to 32) e ∙ first d zs hd in
@@ -95,7 +95,7 @@ told b d ys zs hb hd sy sz e =
 
 -- no line feed among the bytes
 abbrev Unfed : List ℕ → Type 0
-Unfed bs = All (λ b. b ≡ 10 → ⊥) bs
+Unfed bs = AllByRecursion (λ b. b ≡ 10 → ⊥) bs
 
 unfed_digits : (ds : List ℕ) → all_ascii_digits ds ≡ true → Unfed ds
 unfed_digits [] h = tt
@@ -108,12 +108,12 @@ unfed_signed : (z : ℤ) → Small z → Unfed (signed_decimal z)
 unfed_signed (pos n) h = unfed_digits (decimal n) (digits_decimal own n h)
 unfed_signed (negsuc n) h = ((λ e. omega arith), unfed_digits (decimal (suc n)) (digits_decimal own (suc n) h))
 
-unfed_line : (start : List ℕ) (zs : List ℤ) → Unfed start → All Small zs → Unfed (line_of start (map signed_decimal zs))
+unfed_line : (start : List ℕ) (zs : List ℤ) → Unfed start → AllByRecursion Small zs → Unfed (line_of start (map signed_decimal zs))
 unfed_line start [] u h = u
 unfed_line start (z ∷ zs) u h =
     unfed_line (start ++ (32 ∷ signed_decimal z)) zs (All-append (λ b. b ≡ 10 → ⊥) start (32 ∷ signed_decimal z) u ((λ e. omega arith), unfed_signed z h.0)) h.1
 
-single : (letter : ℕ) (numbers : List ℤ) → Has letters letter → All Small numbers → Unfed (answer_line letter numbers)
+single : (letter : ℕ) (numbers : List ℤ) → Has letters letter → AllByRecursion Small numbers → Unfed (answer_line letter numbers)
 single letter zs h small = let l = capital letter h in unfed_line (letter ∷ []) zs ((λ e. omega arith), tt) small
 
 pub answer_law : AnswerLaw

@@ -1,6 +1,6 @@
 -- The lines of an input.
 use Rattle.std.specs.Prelude.{◌≡◌, ℕ, ◌+◌, ◌-◌, ◌<◌, ◌≤◌, cond, List, [], ◌∷◌, ◌++◌, length, take, drop, Some, None, Option, MatchOption, ◌==◌, ◌≢◌, nat_lt}
-use Rattle.std.specs.List.{flat_map, AllByRecursion as All}
+use Rattle.std.specs.List.{flat_map, AllByRecursion}
 use Rattle.console.specs.Lines.{up_to}
 
 -- where the line ends that begins at `from`: at its line feed, or at the end of the input
@@ -38,7 +38,7 @@ lines_by input from (Some found) = take (found.0 - from) (drop from input) ∷ l
 -- the lines, each with its line feed, are the input; none holds a line feed; and next after next finds them all
 pub record LinesLaw (input : List ℕ) : Type 0 where
   pub whole : flat_map (λ line. line ++ (10 ∷ [])) (lines_of input) ≡ input ++ missing input
-  pub apart : All (λ line. All (λ b. b ≢ 10) line) (lines_of input)
+  pub apart : AllByRecursion (λ line. AllByRecursion (λ b. b ≢ 10) line) (lines_of input)
   pub walk : (from : ℕ) → lines_of (drop from input) ≡ lines_by input from (next_line input from)
 
 -- a line that was found lies in the input, and the next one begins further on

@@ -2,7 +2,7 @@
 use Rattle.std.specs.Prelude.{◌≡◌, ℕ, suc, ◌^◌, ◌<◌, cond, List, [], ◌∷◌, ◌++◌, map, ℤ, pos, negsuc, neg_ℤ, ◌==◌, ◌≢◌}
 use Rattle.std.specs.Str.Parse.{digits_value}
 use Rattle.std.specs.Fmt.{signed_decimal}
-use Rattle.std.specs.List.{ContainsAt as Has, AllByRecursion as All}
+use Rattle.std.specs.List.{ContainsAt as Has, AllByRecursion}
 
 -- the bytes before the first `stop`, or all of them
 abbrev pub up_to : ℕ → List ℕ → List ℕ
@@ -39,8 +39,8 @@ letters = 76 ∷ 82 ∷ 83 ∷ 81 ∷ 80 ∷ 67 ∷ 69 ∷ []
 
 -- an answer is one line, it reads back as its letter and its numbers, and so no two answers have the same bytes
 pub record AnswerLaw : Type 0 where
-  pub single : (letter : ℕ) (numbers : List ℤ) → Has letters letter → All Small numbers → All (λ b. b ≢ 10) (answer_line letter numbers)
+  pub single : (letter : ℕ) (numbers : List ℤ) → Has letters letter → AllByRecursion Small numbers → AllByRecursion (λ b. b ≢ 10) (answer_line letter numbers)
   pub first : (letter : ℕ) (numbers : List ℤ) → Has letters letter → up_to 32 (answer_line letter numbers) ≡ letter ∷ []
-  pub fields : (letter : ℕ) (numbers : List ℤ) → Has letters letter → All Small numbers → map number_in (fields_of (answer_line letter numbers)) ≡ numbers
-  pub told : (letter other : ℕ) (numbers others : List ℤ) → Has letters letter → Has letters other → All Small numbers → All Small others
+  pub fields : (letter : ℕ) (numbers : List ℤ) → Has letters letter → AllByRecursion Small numbers → map number_in (fields_of (answer_line letter numbers)) ≡ numbers
+  pub told : (letter other : ℕ) (numbers others : List ℤ) → Has letters letter → Has letters other → AllByRecursion Small numbers → AllByRecursion Small others
       → answer_line letter numbers ≡ answer_line other others → (letter ≡ other) × (numbers ≡ others)

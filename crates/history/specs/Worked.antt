@@ -1,6 +1,6 @@
 -- Worked histories: each is an open, then calls with the answer expected of each, which follow from the definitions by computation.
 use Rattle.std.specs.Prelude.{◌≡◌, true, false, List, [], ◌∷◌, map, pos, neg_ℤ, None}
-use Rattle.std.specs.List.{AllByRecursion as All}
+use Rattle.std.specs.List.{AllByRecursion}
 use Rattle.table.specs.Table.{Table}
 use Rattle.table.specs.Walk.{fault_of}
 use Rattle.table.specs.declared.fault.Fault.TheVariants.{Sum}
@@ -136,4 +136,4 @@ worked_cases =
 
 -- all of them
 unfoldable pub Worked : Type 0
-Worked = All Works worked_cases
+Worked = AllByRecursion Works worked_cases

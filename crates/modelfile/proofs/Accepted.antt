@@ -4,7 +4,7 @@ use mir.Facts.{sfits_to_z}
 use Rattle.std.proofs.lemmas.List.{drop-drop, take-append-drop, append_assoc, length-append, length-take-le, length-drop, get_or-drop}
 use Rattle.std.proofs.lemmas.Int.{of_z-to_z}
 use Rattle.std.proofs.lemmas.Bool.{leb-true, ltb-true}
-use Rattle.std.specs.List.{flat_map, AllByRecursion as All}
+use Rattle.std.specs.List.{flat_map, AllByRecursion}
 use Rattle.modelfile.specs.Results.{Read, and_then, of_record, when_set}
 use Rattle.modelfile.specs.Bytes.{field, little_endian, number, signed, text, branch, branch_run, branches}
 use Rattle.modelfile.specs.Records.{HeaderFields, ChoiceFields, has_bit, header, state, choice}
@@ -44,7 +44,7 @@ small_take (suc n) [] h i = omega arith
 small_take (suc n) (b ∷ bs) h zero = h 0
 small_take (suc n) (b ∷ bs) h (suc i) = small_take n bs (λ j. h (suc j)) i
 
-small_all : (bs : List ℕ) → Small bs → All OneByte bs
+small_all : (bs : List ℕ) → Small bs → AllByRecursion OneByte bs
 small_all [] h = tt
 small_all (b ∷ bs) h = (h 0, small_all bs (λ j. h (suc j)))
 
@@ -132,9 +132,9 @@ module _ (file : List ℕ) (small : Small file) where
 
   -- parts one after the other
   pub run_reads : (k p : ℕ) → p ≤ length file → (v : List (ℕ × ℕ) × ℕ) → branch_run k file p ≡ Ok v
-      → Stands file p (flat_map written_branch v.0) v.1 × (length v.0 ≡ k) × All BranchFits v.0
+      → Stands file p (flat_map written_branch v.0) v.1 × (length v.0 ≡ k) × AllByRecursion BranchFits v.0
   run_reads zero p room v h =
-      subst (λ (v : List (ℕ × ℕ) × ℕ). Stands file p (flat_map written_branch v.0) v.1 × (length v.0 ≡ 0) × All BranchFits v.0) (ok_same h)
+      subst (λ (v : List (ℕ × ℕ) × ℕ). Stands file p (flat_map written_branch v.0) v.1 × (length v.0 ≡ 0) × AllByRecursion BranchFits v.0) (ok_same h)
       (stands_none file p room, refl, tt)
   run_reads (suc k) p room v h =
       let t = then_inv (branch file p) (λ b. and_then (branch_run k file b.1) (λ bs. Ok (b.0 ∷ bs.0, bs.1))) h in
@@ -142,7 +142,7 @@ module _ (file : List ℕ) (small : Small file) where
       let s = then_inv (branch_run k file b.1) (λ bs. Ok (b.0 ∷ bs.0, bs.1)) t.2 in
       let one = branch_reads p b t.1 in
       let more = run_reads k b.1 one.0.inside s.0 s.1 in
-      subst (λ (v : List (ℕ × ℕ) × ℕ). Stands file p (flat_map written_branch v.0) v.1 × (length v.0 ≡ suc k) × All BranchFits v.0) (ok_same s.2)
+      subst (λ (v : List (ℕ × ℕ) × ℕ). Stands file p (flat_map written_branch v.0) v.1 × (length v.0 ≡ suc k) × AllByRecursion BranchFits v.0) (ok_same s.2)
       (stands_append one.0 more.0, ap suc more.1, (one.1, more.2))
 
   pub branches_reads : (p : ℕ) → Reads p (branches file p) written_branches BranchesFit

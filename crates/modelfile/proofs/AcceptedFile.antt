@@ -2,7 +2,7 @@
 use Rattle.std.proofs.Common.{◌≡◌, ℕ, zero, suc, ◌+◌, ◌^◌, ◌<◌, ◌≤◌, Bool, true, false, cond, ltb, leb, List, [], ◌∷◌, ◌++◌, length, drop, Ok, Err, Option, sym, refl, ap, ◌∙◌, subst, ap₂, arith, w32, SFits}
 use Rattle.std.proofs.lemmas.List.{append-nil, drop_all}
 use Rattle.std.proofs.lemmas.Bool.{leb-true, ltb-true, ltb-false}
-use Rattle.std.specs.List.{flat_map, AllByRecursion as All}
+use Rattle.std.specs.List.{flat_map, AllByRecursion}
 use Rattle.modelfile.specs.Results.{Read, and_then, of_record, of_file, when_set}
 use Rattle.modelfile.specs.Bytes.{number, signed, text, branches}
 use Rattle.modelfile.specs.Records.{HeaderFields, ChoiceFields, has_bit, header, state, choice}
@@ -91,9 +91,9 @@ module _ (file : List ℕ) (small : Small file) where
       )
 
   pub choices_read : (k p : ℕ) → p ≤ length file → (v : List ChoiceFields × ℕ) → choice_run k file p ≡ Ok v
-      → Stands file p (flat_map written_choice v.0) v.1 × (length v.0 ≡ k) × All ChoiceFits v.0
+      → Stands file p (flat_map written_choice v.0) v.1 × (length v.0 ≡ k) × AllByRecursion ChoiceFits v.0
   choices_read zero p room v h =
-      subst (λ (v : List ChoiceFields × ℕ). Stands file p (flat_map written_choice v.0) v.1 × (length v.0 ≡ 0) × All ChoiceFits v.0) (ok_same h)
+      subst (λ (v : List ChoiceFields × ℕ). Stands file p (flat_map written_choice v.0) v.1 × (length v.0 ≡ 0) × AllByRecursion ChoiceFits v.0) (ok_same h)
       (stands_none file p room, refl, tt)
   choices_read (suc k) p room v h =
       let t = then_inv (choice file p) _ h in
@@ -101,13 +101,13 @@ module _ (file : List ℕ) (small : Small file) where
       let s = then_inv (choice_run k file c.1) _ t.2 in
       let one = choice_reads p c t.1 in
       let more = choices_read k c.1 one.0.inside s.0 s.1 in
-      subst (λ (v : List ChoiceFields × ℕ). Stands file p (flat_map written_choice v.0) v.1 × (length v.0 ≡ suc k) × All ChoiceFits v.0) (ok_same s.2)
+      subst (λ (v : List ChoiceFields × ℕ). Stands file p (flat_map written_choice v.0) v.1 × (length v.0 ≡ suc k) × AllByRecursion ChoiceFits v.0) (ok_same s.2)
       (stands_append one.0 more.0, ap suc more.1, (one.1, more.2))
 
   pub states_read : (n p : ℕ) → p ≤ length file → (v : List (List ChoiceFields) × ℕ) → state_run n file p ≡ Ok v
-      → Stands file p (flat_map written_state v.0) v.1 × (length v.0 ≡ n) × All StateFits v.0
+      → Stands file p (flat_map written_state v.0) v.1 × (length v.0 ≡ n) × AllByRecursion StateFits v.0
   states_read zero p room v h =
-      subst (λ (v : List (List ChoiceFields) × ℕ). Stands file p (flat_map written_state v.0) v.1 × (length v.0 ≡ 0) × All StateFits v.0) (ok_same h)
+      subst (λ (v : List (List ChoiceFields) × ℕ). Stands file p (flat_map written_state v.0) v.1 × (length v.0 ≡ 0) × AllByRecursion StateFits v.0) (ok_same h)
       (stands_none file p room, refl, tt)
   states_read (suc n) p room v h =
       let t = then_inv (state file p) _ h in
@@ -121,7 +121,7 @@ module _ (file : List ℕ) (small : Small file) where
       let long : k.0 ≡ length cs.0 = sym own.1 in
       let few : length cs.0 < 2 ^ 8 = subst (λ (x : ℕ). x < 2 ^ 8) long count.1 in
       let one = stands_append (subst (λ (x : ℕ). Stands file p (bytes_of 1 x) k.1) long count.0) own.0 in
-      subst (λ (v : List (List ChoiceFields) × ℕ). Stands file p (flat_map written_state v.0) v.1 × (length v.0 ≡ suc n) × All StateFits v.0) (ok_same u.2)
+      subst (λ (v : List (List ChoiceFields) × ℕ). Stands file p (flat_map written_state v.0) v.1 × (length v.0 ≡ suc n) × AllByRecursion StateFits v.0) (ok_same u.2)
       (stands_append one more.0, ap suc more.1, ((few, own.2), more.2))
 
   -- an accepted file is what the writer writes for what was read, and that fits

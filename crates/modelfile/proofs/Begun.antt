@@ -2,7 +2,7 @@
 use Rattle.std.proofs.Common.{◌≡◌, ℕ, zero, suc, ◌+◌, ◌^◌, ◌<◌, ◌≤◌, Bool, true, false, cond, leb, List, [], ◌∷◌, ◌++◌, length, take, drop, replicate, Some, None, Ok, Err, Option, Result, sym, refl, ap, ◌∙◌, subst, ap₂, inl, inr, arith, w32, to_z}
 use Rattle.std.proofs.lemmas.List.{append_assoc, append-nil, length-replicate}
 use Rattle.std.proofs.lemmas.Bool.{cases_Bool}
-use Rattle.std.specs.List.{flat_map, AllByRecursion as All}
+use Rattle.std.specs.List.{flat_map, AllByRecursion}
 use Rattle.modelfile.specs.Results.{Read, and_then, of_record, when_set}
 use Rattle.modelfile.specs.Bytes.{field, little_endian, number, signed, text, branch, branch_run, branches}
 use Rattle.modelfile.specs.Written.{bytes_of, written_text, written_branch, written_branches, if_there, bit_of, OneByte, FourBytes, TextFits, BranchFits, BranchesFit, WhereThere}
@@ -27,13 +27,13 @@ abbrev pub record_at : RecordFault → ℕ
 record_at (Bytes b) = byte_at b
 record_at (UnknownBit p) = p
 
-pub all_replicate : {A : Type 0} (P : A → Type 0) (n : ℕ) (a : A) → P a → All P (replicate n a)
+pub all_replicate : {A : Type 0} (P : A → Type 0) (n : ℕ) (a : A) → P a → AllByRecursion P (replicate n a)
 all_replicate P zero a h = tt
 all_replicate P (suc n) a h = (h, all_replicate P n a h)
 
 -- n parts that fit
 abbrev pub Many : {A : Type 0} → (A → Type 0) → ℕ → List A → Type 0
-Many P n vs = (length vs ≡ n) × All P vs
+Many P n vs = (length vs ≡ n) × AllByRecursion P vs
 
 pub many_same : {A : Type 0} (P : A → Type 0) (n : ℕ) (a : A) → P a → Many P n (replicate n a)
 many_same P n a h = (length-replicate n a, all_replicate P n a h)
@@ -138,7 +138,7 @@ module _ (file : List ℕ) where
 
   -- a count in one byte, then that many parts
   pub counted : {A : Type 0} {p q r : ℕ} (n : ℕ) (write : List A → List ℕ) (P : A → Type 0) → n < 2 ^ 8 → Stands file p (bytes_of 1 n) q → Begun file q r write (Many P n)
-      → Begun file p r (λ vs. bytes_of 1 (length vs) ++ write vs) (λ vs. OneByte (length vs) × All P vs)
+      → Begun file p r (λ vs. bytes_of 1 (length vs) ++ write vs) (λ vs. OneByte (length vs) × AllByRecursion P vs)
   counted n write P few t s =
       let long : length s.value ≡ n = s.fits.0 in
       begun_within (bytes_of 1 n) [] t s s.value (subst (λ (x : ℕ). x < 2 ^ 8) (sym long) few, s.fits.1)

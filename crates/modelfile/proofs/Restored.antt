@@ -4,7 +4,7 @@ use mir.Facts.{Fits-of_z}
 use Rattle.std.proofs.lemmas.List.{drop-drop, append_assoc, length-append, take_at, drop_at}
 use Rattle.std.proofs.lemmas.Int.{to_z-of_z}
 use Rattle.std.proofs.lemmas.Bool.{le-leb, cond-true}
-use Rattle.std.specs.List.{flat_map, AllByRecursion as All}
+use Rattle.std.specs.List.{flat_map, AllByRecursion}
 use Rattle.modelfile.specs.Results.{Read, and_then, when_set}
 use Rattle.modelfile.specs.Bytes.{field, little_endian, number, signed, text, branch, branch_run, branches}
 use Rattle.modelfile.specs.Written.{bytes_of, written_signed, written_text, written_branch, written_branches, if_there, TextFits, BranchFits, BranchesFit, WhereThere}
@@ -76,7 +76,7 @@ module _ (file : List ℕ) where
       (number_restores 2 b.0 p (p + 2) h.0 (stands_left p q (bytes_of 2 b.0) (bytes_of 4 b.1) s))
       ∙ then_ok (λ w. Ok ((b.0, w.0), w.1)) (number_restores 4 b.1 (p + 2) q h.1 (stands_right p q (bytes_of 2 b.0) (bytes_of 4 b.1) s))
 
-  pub run_restores : (bs : List (ℕ × ℕ)) (p q : ℕ) → All BranchFits bs → Stands file p (flat_map written_branch bs) q → branch_run (length bs) file p ≡ Ok (bs, q)
+  pub run_restores : (bs : List (ℕ × ℕ)) (p q : ℕ) → AllByRecursion BranchFits bs → Stands file p (flat_map written_branch bs) q → branch_run (length bs) file p ≡ Ok (bs, q)
   run_restores [] p q h s = let e = s.place in let f : p ≡ q = omega arith in ap (λ (x : ℕ). Ok ([], x)) f
   run_restores (b ∷ bs) p q h s =
       let one = branch_restores b p (p + 6) h.0 (stands_left p q (written_branch b) (flat_map written_branch bs) s) in

@@ -2,7 +2,7 @@
 use Rattle.std.proofs.Common.{◌≡◌, ℕ, zero, suc, ◌+◌, ◌^◌, ◌<◌, ◌≤◌, Bool, true, false, cond, ltb, leb, List, [], ◌∷◌, ◌++◌, length, drop, is_some, Some, None, Ok, Err, Option, sym, refl, ap, ◌∙◌, subst, ap₂, arith, w32, SFits}
 use Rattle.std.proofs.lemmas.List.{append-nil, drop_all, length-append}
 use Rattle.std.proofs.lemmas.Bool.{le-leb, lt-ltb, le-ltb, cond-true, cond-false}
-use Rattle.std.specs.List.{flat_map, AllByRecursion as All}
+use Rattle.std.specs.List.{flat_map, AllByRecursion}
 use Rattle.modelfile.specs.Results.{Read, and_then, of_record, of_file, when_set}
 use Rattle.modelfile.specs.Bytes.{number, signed, text, branches}
 use Rattle.modelfile.specs.Records.{HeaderFields, ChoiceFields, has_bit, header, state, choice}
@@ -87,7 +87,7 @@ module _ (file : List ℕ) where
       ∙ (cond-true (ltb m 4) _ _ (lt-ltb m 4 below)
       ∙ (then_ok _ (ap of_record e1) ∙ (then_ok _ (ap of_record e2) ∙ then_ok _ (ap of_record e3))))
 
-  pub choices_restore : (cs : List ChoiceFields) (p q : ℕ) → All ChoiceFits cs → Stands file p (flat_map written_choice cs) q → choice_run (length cs) file p ≡ Ok (cs, q)
+  pub choices_restore : (cs : List ChoiceFields) (p q : ℕ) → AllByRecursion ChoiceFits cs → Stands file p (flat_map written_choice cs) q → choice_run (length cs) file p ≡ Ok (cs, q)
   choices_restore [] p q h s = let e = s.place in let f : p ≡ q = omega arith in ap (λ (x : ℕ). Ok ([], x)) f
   choices_restore (c ∷ cs) p q h s =
       let r : ℕ = p + length (written_choice c) in
@@ -95,7 +95,7 @@ module _ (file : List ℕ) where
       let more = choices_restore cs r q h.1 (stands_right file p q (written_choice c) (flat_map written_choice cs) s) in
       then_ok _ one ∙ then_ok _ more
 
-  pub states_restore : (ss : List (List ChoiceFields)) (p q : ℕ) → All StateFits ss → Stands file p (flat_map written_state ss) q → state_run (length ss) file p ≡ Ok (ss, q)
+  pub states_restore : (ss : List (List ChoiceFields)) (p q : ℕ) → AllByRecursion StateFits ss → Stands file p (flat_map written_state ss) q → state_run (length ss) file p ≡ Ok (ss, q)
   states_restore [] p q h s = let e = s.place in let f : p ≡ q = omega arith in ap (λ (x : ℕ). Ok ([], x)) f
   states_restore (cs ∷ ss) p q h s =
       let r : ℕ = p + length (written_state cs) in

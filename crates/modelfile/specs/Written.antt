@@ -2,7 +2,7 @@
 use Rattle.std.specs.Prelude.{◌≡◌, ℕ, zero, suc, ◌+◌, ◌/◌, ◌%◌, ◌^◌, ◌<◌, List, [], ◌∷◌, ◌++◌, length, ℤ, Some, None, Option, FitsSigned}
 use Rattle.std.specs.Int.{w32}
 use Rattle.std.proofs.Common.{of_z}
-use Rattle.std.specs.List.{AllByRecursion as All, flat_map}
+use Rattle.std.specs.List.{AllByRecursion, flat_map}
 use Rattle.modelfile.specs.Records.{ChoiceFields}
 use Rattle.modelfile.specs.File.{Model}
 
@@ -59,13 +59,13 @@ abbrev pub FourBytes : ℕ → Type 0
 FourBytes n = n < 2 ^ 32
 
 abbrev pub TextFits : List ℕ → Type 0
-TextFits t = OneByte (length t) × All OneByte t
+TextFits t = OneByte (length t) × AllByRecursion OneByte t
 
 abbrev pub BranchFits : ℕ × ℕ → Type 0
 BranchFits b = TwoBytes b.0 × FourBytes b.1
 
 abbrev pub BranchesFit : List (ℕ × ℕ) → Type 0
-BranchesFit bs = OneByte (length bs) × All BranchFits bs
+BranchesFit bs = OneByte (length bs) × AllByRecursion BranchFits bs
 
 -- a field that is there fits
 abbrev pub WhereThere : {A : Type 0} → (A → Type 0) → Option A → Type 0
@@ -78,10 +78,10 @@ pub record ChoiceFits (c : ChoiceFields) : Type 0 where
   pub label : WhereThere TextFits c.label
 
 abbrev pub StateFits : List ChoiceFields → Type 0
-StateFits cs = OneByte (length cs) × All ChoiceFits cs
+StateFits cs = OneByte (length cs) × AllByRecursion ChoiceFits cs
 
 pub record ModelFits (m : Model) : Type 0 where
   pub denominator : WhereThere FourBytes m.denominator
   pub name : WhereThere TextFits m.name
   pub count : TwoBytes (length m.states)
-  pub states : All StateFits m.states
+  pub states : AllByRecursion StateFits m.states

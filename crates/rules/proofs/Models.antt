@@ -1,6 +1,6 @@
 -- The worked models are lawful, and state 0 of F is lone.
 use Rattle.std.proofs.Common.{◌≡◌, pos, neg_ℤ, None, refl, arith}
-use Rattle.std.specs.List.{AllByRecursion as All}
+use Rattle.std.specs.List.{AllByRecursion}
 use Rattle.table.specs.Table.{Table}
 use Rattle.table.specs.Limits.{Lawful}
 use Rattle.table.specs.Walk.{fault_of}
@@ -16,7 +16,7 @@ use Rattle.rules.specs.Worked.{model_a, model_b, model_c, model_d, model_e, mode
 passes_walk : (T : Table) → fault_of T ≡ None → Lawful T
 passes_walk T e = (walk_law T).lawful.0 e
 
-pub models_lawful : All Lawful worked_models
+pub models_lawful : AllByRecursion Lawful worked_models
 unfolding model_a model_b model_c model_d model_e model_f
 models_lawful =
     let d = passes_walk (model_d (pos 1)) refl in

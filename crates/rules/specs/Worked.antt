@@ -1,6 +1,6 @@
 -- Worked models, whose results follow from the rules by computation. Branches are written (successor, weight).
 use Rattle.std.specs.Prelude.{◌≡◌, ℕ, List, [], ◌∷◌, map, length, get_or, ℤ, pos, neg_ℤ, slice_index_or}
-use Rattle.std.specs.List.{range_with_len, AllByRecursion as All}
+use Rattle.std.specs.List.{range_with_len, AllByRecursion}
 use Rattle.table.specs.Table.{Table}
 use Rattle.table.specs.Limits.{Lawful}
 use Rattle.components.specs.Nodes.{components}
@@ -78,7 +78,7 @@ plays T B = map (play T B) (range_with_len 0 T.states)
 
 pub record WorkedModels : Type 0 where
   -- each table is lawful
-  pub lawful : All Lawful worked_models
+  pub lawful : AllByRecursion Lawful worked_models
   -- A: L = U = 3 × F at the start
   pub a : bounds model_a (opened model_a) 0 ≡ (pos 3145728, pos 3145728)
   -- B: one step leaves lo 0 and hi 10 × F; a first refine of at most 10 steps makes 2, and both are 5 × F

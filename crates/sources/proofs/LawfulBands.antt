@@ -4,7 +4,7 @@ use Rattle.std.proofs.lemmas.Nat.{mul-le}
 use Rattle.std.proofs.ByRecursion.{All-get_or}
 use Rattle.std.proofs.lemmas.Int.{ints}
 use Rattle.std.proofs.lemmas.Bool.{and_parts, cases_eq, cond-true, cond-false, eq-eqb, leb-true, lt-ltb, ne_eqb}
-use Rattle.std.specs.List.{AllByRecursion as All}
+use Rattle.std.specs.List.{AllByRecursion}
 use Rattle.table.specs.Sums.{sum_n}
 use Rattle.table.specs.Table.{Table}
 use Rattle.table.specs.Limits.{Lawful}
@@ -43,10 +43,10 @@ apart_2 u v p q h (suc zero) m (suc a) l e = absurd (omega arith)
 apart_2 u v p q h (suc (suc i)) m a l e = absurd (omega arith)
 
 module _ (n : ℕ) where
-  leads : (xs : List (ℕ × ℕ)) → All (λ x. x.0 < n) xs → (i : ℕ) → i < length xs → to xs i < n
+  leads : (xs : List (ℕ × ℕ)) → AllByRecursion (λ x. x.0 < n) xs → (i : ℕ) → i < length xs → to xs i < n
   leads xs h i l = All-get_or (λ (x : ℕ × ℕ). x.0 < n) xs i (0, 0) l h
 
-  weighs : (xs : List (ℕ × ℕ)) → All (λ x. 1 ≤ x.1) xs → (i : ℕ) → i < length xs → 1 ≤ by xs i
+  weighs : (xs : List (ℕ × ℕ)) → AllByRecursion (λ x. 1 ≤ x.1) xs → (i : ℕ) → i < length xs → 1 ≤ by xs i
   weighs xs h i l = All-get_or (λ (x : ℕ × ℕ). 1 ≤ x.1) xs i (0, 0) l h
 
   one : (u : ℕ) → u < n → Sound n ((u, 4) ∷ [])

@@ -4,7 +4,7 @@ use lib.Signed.{le_z}
 use Rattle.std.proofs.ByRecursion.{All-append}
 use Rattle.std.proofs.lemmas.Int.{ints}
 use Rattle.std.proofs.lemmas.Bool.{and_parts, and_from, cases_Bool, cases_eq, cond-true, cond-false, eq-eqb, eqb-true, le-leb, leb-true, lt-ltb, ltb-true, not-true, not_from_false, both_ways, or_from, ne_eqb}
-use Rattle.std.specs.List.{AllByRecursion as All}
+use Rattle.std.specs.List.{AllByRecursion}
 use Rattle.table.specs.Sums.{sum_n}
 use Rattle.table.specs.Table.{Table, successor, weight}
 use Rattle.table.specs.Limits.{Lawful, SuccessorNew}
@@ -68,7 +68,7 @@ limit_test T (Sum s c) h = eq-eqb (sum_n (T.branches s c) (weight T s c)) T.deno
 -- What is found on a list of limits
 
 module _ (T : Table) where
-  none_broken : (es : List Fault) → first_broken T es ≡ None → All (Limit T) es
+  none_broken : (es : List Fault) → first_broken T es ≡ None → AllByRecursion (Limit T) es
   none_broken [] h = tt
   none_broken (e ∷ es) h =
       elim (cases_Bool (kept T e)) [
@@ -76,7 +76,7 @@ module _ (T : Table) where
         | inr k ↦ (let no : Some e ≡ None = sym (cond-false (kept T e) (first_broken T es) (Some e) k) ∙ h in let z : ◌≡◌ {A = ℕ} 0 1 = cc in absurd (omega arith))
       ]
 
-  all_kept : (es : List Fault) → All (Limit T) es → first_broken T es ≡ None
+  all_kept : (es : List Fault) → AllByRecursion (Limit T) es → first_broken T es ≡ None
   all_kept [] h = refl
   all_kept (e ∷ es) h = cond-true (kept T e) (first_broken T es) (Some e) (limit_test T e h.0) ∙ all_kept es h.1
 
@@ -85,7 +85,7 @@ module _ (T : Table) where
     pub earlier : List Fault
     pub later : List Fault
     pub place : es ≡ earlier ++ (e ∷ later)
-    pub held : All (Limit T) earlier
+    pub held : AllByRecursion (Limit T) earlier
     pub broken : Limit T e → ⊥
 
   split : (es : List Fault) (e : Fault) → first_broken T es ≡ Some e → Split es e
@@ -110,38 +110,38 @@ module _ (T : Table) where
 -- All limits of a walk, by its parts
 
 module _ (P : Fault → Type 0) where
-  all_left : (xs ys : List Fault) → All P (xs ++ ys) → All P xs
+  all_left : (xs ys : List Fault) → AllByRecursion P (xs ++ ys) → AllByRecursion P xs
   all_left [] ys h = tt
   all_left (x ∷ xs) ys h = (h.0, all_left xs ys h.1)
 
-  all_right : (xs ys : List Fault) → All P (xs ++ ys) → All P ys
+  all_right : (xs ys : List Fault) → AllByRecursion P (xs ++ ys) → AllByRecursion P ys
   all_right [] ys h = h
   all_right (x ∷ xs) ys h = all_right xs ys h.1
 
-  each_all : (f : ℕ → List Fault) (k : ℕ) → All P (each k f) → (i : ℕ) → i < k → All P (f i)
+  each_all : (f : ℕ → List Fault) (k : ℕ) → AllByRecursion P (each k f) → (i : ℕ) → i < k → AllByRecursion P (f i)
   each_all f zero h i l = absurd (omega arith)
   each_all f (suc k) h i l =
       elim (cases_eq i k) [
-        | inl q ↦ subst (λ (j : ℕ). All P (f j)) (sym q) (all_right (each k f) (f k) h)
+        | inl q ↦ subst (λ (j : ℕ). AllByRecursion P (f j)) (sym q) (all_right (each k f) (f k) h)
         | inr q ↦ each_all f k (all_left (each k f) (f k) h) i (omega arith)
       ]
 
-  all_each : (f : ℕ → List Fault) (k : ℕ) → ((i : ℕ) → i < k → All P (f i)) → All P (each k f)
+  all_each : (f : ℕ → List Fault) (k : ℕ) → ((i : ℕ) → i < k → AllByRecursion P (f i)) → AllByRecursion P (each k f)
   all_each f zero h = tt
   all_each f (suc k) h = All-append P (each k f) (f k) (all_each f k (λ i l. h i (omega arith))) (h k (omega arith))
 
 module _ (T : Table) where
-  at_state : All (Limit T) (walk T) → (s : ℕ) → s < T.states → All (Limit T) (state_walk T s)
+  at_state : AllByRecursion (Limit T) (walk T) → (s : ℕ) → s < T.states → AllByRecursion (Limit T) (state_walk T s)
   at_state h s l = each_all (Limit T) (state_walk T) T.states h.1.1 s l
 
-  at_choice : All (Limit T) (walk T) → (s c : ℕ) → s < T.states → c < T.choices s → All (Limit T) (choice_walk T s c)
+  at_choice : AllByRecursion (Limit T) (walk T) → (s c : ℕ) → s < T.states → c < T.choices s → AllByRecursion (Limit T) (choice_walk T s c)
   at_choice h s c l m = each_all (Limit T) (choice_walk T s) (T.choices s) (at_state h s l).1 c m
 
-  at_branch : All (Limit T) (walk T) → (s c b : ℕ) → s < T.states → c < T.choices s → b < T.branches s c → All (Limit T) (branch_walk s c b)
+  at_branch : AllByRecursion (Limit T) (walk T) → (s c b : ℕ) → s < T.states → c < T.choices s → b < T.branches s c → AllByRecursion (Limit T) (branch_walk s c b)
   at_branch h s c b l m n =
       each_all (Limit T) (branch_walk s c) (T.branches s c) (all_left (Limit T) (each (T.branches s c) (branch_walk s c)) (Sum s c ∷ []) (at_choice h s c l m).1.1) b n
 
-  lawful_from_walk : All (Limit T) (walk T) → Lawful T
+  lawful_from_walk : AllByRecursion (Limit T) (walk T) → Lawful T
   lawful_from_walk h = record {
     states = h.0;
     denominator = h.1.0;
@@ -154,7 +154,7 @@ module _ (T : Table) where
     complete = λ s c l m. (all_right (Limit T) (each (T.branches s c) (branch_walk s c)) (Sum s c ∷ []) (at_choice h s c l m).1.1).0;
   }
 
-  walk_from_lawful : Lawful T → All (Limit T) (walk T)
+  walk_from_lawful : Lawful T → AllByRecursion (Limit T) (walk T)
   walk_from_lawful w = (
     w.states,
     (

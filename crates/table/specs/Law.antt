@@ -1,6 +1,6 @@
 -- What the first broken limit says of a table.
 use Rattle.std.specs.Prelude.{◌≡◌, ◌↔◌, List, ◌∷◌, ◌++◌, Some, None, Ok, Err, Option, Result}
-use Rattle.std.specs.List.{AllByRecursion as All}
+use Rattle.std.specs.List.{AllByRecursion}
 use Rattle.table.specs.Table.{Table}
 use Rattle.table.specs.Limits.{Lawful}
 use Rattle.table.specs.Faults.{Limit}
@@ -12,7 +12,7 @@ pub record FirstOnWalk (T : Table) (e : Fault) : Type 0 where
   pub earlier : List Fault
   pub later : List Fault
   pub place : walk T ≡ earlier ++ (e ∷ later)
-  pub held : All (Limit T) earlier
+  pub held : AllByRecursion (Limit T) earlier
   pub broken : Limit T e → ⊥
 
 -- no limit is the first broken one exactly if the table is lawful; else it is the first on the walk
