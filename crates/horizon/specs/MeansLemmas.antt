@@ -4,11 +4,11 @@ use Rattle.std.proofs.Common.{ap, ◌∙◌, arith}
 use Rattle.table.specs.Table.{Table, successor, weight}
 use Rattle.table.specs.Limits.{Lawful}
 use Rattle.horizon.specs.Sums.{branch_sum_n, branch_sum_z}
-use Rattle.horizon.specs.Means.{Rounding, round_down, round_up, mean, KeepsEqual, Monotone}
+use Rattle.horizon.specs.Means.{Rounding, round_down, round_up, mean, KeepsEqual, Monotone, Near}
 use Rattle.horizon.specs.Ring.{lin, over, times, mono, le_trans}
 use Rattle.horizon.specs.SumsLemmas.{weighted_z_cong}
 use Rattle.horizon.specs.Branches.{branch_sum_z_const, branch_sum_z_mono, branch_sum_z_pos}
-use Rattle.horizon.specs.Rounding.{down_below, down_most, up_above, up_least}
+use Rattle.horizon.specs.Rounding.{down_below, down_most, down_next, up_above, up_least, up_next}
 
 pub keeps_equal : (rounds : Rounding) → ((z : ℤ) (W : ℕ) → 1 ≤ W → rounds (pos W *ℤ z) W ≡ z) → KeepsEqual rounds
 keeps_equal rounds exact T law s c h k f z e =
@@ -19,6 +19,25 @@ keeps_equal rounds exact T law s c h k f z e =
 pub monotone : (rounds : Rounding) → ((a b : ℤ) (W : ℕ) → 1 ≤ W → a ≤ℤ b → rounds a W ≤ℤ rounds b W) → Monotone rounds
 monotone rounds keeps T law s c h k f g l =
     keeps (branch_sum_z T s c f) (branch_sum_z T s c g) T.denominator law.denominator.0 (branch_sum_z_mono T s c f g l)
+
+-- each rounded mean is less than one off
+pub up_near : Near round_up
+up_near T law s c h k f =
+    let z = branch_sum_z T s c f in
+    let W = T.denominator in
+    let w = law.denominator.0 in
+    let a = up_above z W w in
+    let b = up_next z W w in
+    (omega (arith, lin), omega (arith, lin))
+
+pub down_near : Near round_down
+down_near T law s c h k f =
+    let z = branch_sum_z T s c f in
+    let W = T.denominator in
+    let w = law.denominator.0 in
+    let a = down_below z W w in
+    let b = down_next z W w in
+    (omega (arith, lin), omega (arith, lin))
 
 -- bounds on the numbers bound the mean
 module _ (rounds : Rounding) (equal : KeepsEqual rounds) (larger : Monotone rounds)

@@ -1,10 +1,8 @@
 ghost use Rattle.std.specs.Prelude.{◌≡◌, ℕ, ℤ, ◌≤ℤ◌};
 ghost use Rattle.horizon.specs.Means.{round_down, round_up, OnSide, KeepsEqual, Monotone, Near, Within};
 ghost use Rattle.horizon.specs.Sums.{branch_sum_z};
-ghost use Rattle.horizon.specs.Rounding.{up_above, up_exact, up_mono, up_next, up_within, down_below, down_exact, down_mono, down_next, down_within};
-ghost use Rattle.horizon.specs.MeansLemmas.{keeps_equal, monotone};
-ghost use Rattle.std.proofs.Common.{arith};
-ghost use Rattle.horizon.specs.Ring.{lin};
+ghost use Rattle.horizon.specs.Rounding.{up_above, up_exact, up_mono, up_within, down_below, down_exact, down_mono, down_within};
+ghost use Rattle.horizon.specs.MeansLemmas.{keeps_equal, monotone, up_near, down_near};
 
 // One of the two sides of a mean. Work on means is written once, over a side.
 pub trait Side {
@@ -51,13 +49,7 @@ impl Side for UpperSide {
 
     ghost larger = { monotone round_up up_mono };
 
-    ghost near = { λ T law s c h k f.
-        let z = branch_sum_z T s c f in
-        let W = T.denominator in
-        let a = up_above z W law.denominator.0 in
-        let b = up_next z W law.denominator.0 in
-        let w = law.denominator.0 in
-        (omega (arith, lin), omega (arith, lin)) };
+    ghost near = { up_near };
 
     ghost within = { up_within };
 
@@ -86,13 +78,7 @@ impl Side for LowerSide {
 
     ghost larger = { monotone round_down down_mono };
 
-    ghost near = { λ T law s c h k f.
-        let z = branch_sum_z T s c f in
-        let W = T.denominator in
-        let a = down_below z W law.denominator.0 in
-        let b = down_next z W law.denominator.0 in
-        let w = law.denominator.0 in
-        (omega (arith, lin), omega (arith, lin)) };
+    ghost near = { down_near };
 
     ghost within = { down_within };
 
