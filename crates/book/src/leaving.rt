@@ -23,7 +23,7 @@ fn best_choice<S: Side>(
     requires state { state < (table_of frame.now).states }
     requires values { length values.now ≡ nodes (table_of frame.now) }
     requires small { Small values.now }
-    ensures { result ≡ over_choices (setting_of (table_of frame.now)) (mean_of (setting_of (table_of frame.now)) rounds values.now) state ((table_of frame.now).choices state) best }
+    ensures { result ≡ over_choices (setting_of (table_of frame.now)) (mean_of (setting_of (table_of frame.now)) S.rounds values.now) state ((table_of frame.now).choices state) best }
 {
     let row = frame.states[state as usize];
     let mut best = best;
@@ -81,7 +81,7 @@ pub(crate) fn best_exit<S: Side>(
     requires bounds { length bounds.now ≡ components (table_of frame.now) }
     requires values { length values.now ≡ nodes (table_of frame.now) }
     requires small { Small values.now }
-    ensures { result ≡ best_of (setting_of (table_of frame.now)) rounds bounds.now values.now node }
+    ensures { result ≡ best_of (setting_of (table_of frame.now)) S.rounds bounds.now values.now node }
 {
     let mut best = stay(frame, bounds, node);
     for place in frame.starts[node]..frame.starts[node + 1] {

@@ -52,7 +52,7 @@ pub(crate) fn worth<S: Side>(reward: i32, total: i64, denominator: u32) -> i64
     requires most { reward ≤ℤ pos 1000000 }
     requires low { neg_ℤ (pos (2 ^ 62)) ≤ℤ total }
     requires high { total ≤ℤ pos (2 ^ 62) }
-    ensures { result ≡ (pos 1048576 *ℤ reward) +ℤ rounds total denominator }
+    ensures { result ≡ (pos 1048576 *ℤ reward) +ℤ S.rounds total denominator }
 {
     scaled(reward) + S::round(total, denominator)
 }

@@ -7,7 +7,7 @@ pub loop-branch-preserved : goal.loop-branch-preserved
 loop-branch-preserved g c =
     let T : Table = g.S.Source.table c.args.source.now in
     let f : ℕ → ℕ × ℕ = T.branch c.args.state c.args.choice in
-    c.in-ok-push.ensures.items
+    c.in_ok-push.ensures.items
     ∙ appended_more (vec_items c.args.branches.now) (vec_items c.loop-branch.branches) f c.loop-branch.branch
     c.branch-source.result c.loop-branch.invariant c.branch-source.ensures
 

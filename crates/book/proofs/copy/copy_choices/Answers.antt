@@ -9,8 +9,8 @@ loop-choice-preserved g c =
     let T : Table = g.S.Source.table c.args.source.now in
     choices_more T c.args.state c.loop-choice.choice _ (vec_items c.args.choices.now) (vec_items c.loop-choice.choices)
     (vec_items c.push.new.self) (vec_items c.args.branches.now) (vec_items c.loop-choice.branches)
-    (vec_items c.copy-branches.new.branches) c.loop-choice.invariant
+    (vec_items c.copy_branches.new.branches) c.loop-choice.invariant
     (c.requires.lawful.branches c.args.state c.loop-choice.choice c.requires.within (omega arith)).1
-    c.in-ok-copy-branches.ensures c.in-ok-push.ensures.items
+    c.in_ok-copy_branches.ensures c.in_ok-push.ensures.items
     (let f : SFits w32 c.reward-reward.result = search rules in simp to_z-of_z c.reward-reward.ensures)
     (c.len-first.ensures ∙ c.loop-choice.branches.ok.0) c.branches-count.ensures

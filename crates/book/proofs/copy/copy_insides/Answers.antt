@@ -5,9 +5,9 @@ use Rattle.book.proofs.copy.copy_insides.Goals as goal
 
 pub loop-choice-preserved : goal.loop-choice-preserved
 loop-choice-preserved c =
-    c.in-ok-push.ensures.items
+    c.in_ok-push.ensures.items
     ∙ appended_more (vec_items c.args.inside.now) (vec_items c.loop-choice.inside) (inside_in c.args.parts.now c.args.state)
-    c.loop-choice.choice c.is-inside.result c.loop-choice.invariant c.is-inside.ensures
+    c.loop-choice.choice c.is_inside.result c.loop-choice.invariant c.is_inside.ensures
 
 pub returns : goal.returns
 returns c =

@@ -52,9 +52,9 @@ gained-requires c =
     let small = capped v (table_of f0).states c.requires.size c.requires.natural c.requires.capped in
     record {
       above = within f0 c.requires.framed v c.args.state c.requires.state c.requires.member small round_up upper_side
-          c.best-inside-upper.result.0 c.in-Some.above c.best-inside-upper.ensures.upper c.in-Some.is;
+          c.best_inside-upper.result.0 c.in-Some.above c.best_inside-upper.ensures.upper c.in-Some.is;
       below = within f0 c.requires.framed v c.args.state c.requires.state c.requires.member small round_down lower_side
-          c.best-inside-upper.result.1 c.in-Some-lower.below c.best-inside-upper.ensures.lower c.in-Some-lower.is;
+          c.best_inside-upper.result.1 c.in-Some-lower.below c.best_inside-upper.ensures.lower c.in-Some-lower.is;
       here = (simp to_z-of_z low, simp to_z-of_z high);
     }
 
@@ -62,7 +62,7 @@ pub unreachable-requires : goal.unreachable-requires
 unreachable-requires c =
     not_missing (table_of c.args.frame.now) c.requires.framed.lawful round_up upper_side (vector_of c.args.vector.now)
     (capped c.args.vector.now (table_of c.args.frame.now).states c.requires.size c.requires.natural c.requires.capped)
-    c.args.state c.requires.member c.best-inside-upper.result.0 c.best-inside-upper.ensures.upper c.in-default.is
+    c.args.state c.requires.member c.best_inside-upper.result.0 c.best_inside-upper.ensures.upper c.in_default.is
 
 pub returns : goal.returns
 unfolding attains best
@@ -71,11 +71,11 @@ returns c =
     let v = c.args.vector.now in
     let small = capped v (table_of f0).states c.requires.size c.requires.natural c.requires.capped in
     let a = within f0 c.requires.framed v c.args.state c.requires.state c.requires.member small round_up upper_side
-    c.best-inside-upper.result.0 c.in-Some.above c.best-inside-upper.ensures.upper c.in-Some.is in
+    c.best_inside-upper.result.0 c.in-Some.above c.best_inside-upper.ensures.upper c.in-Some.is in
     let b = within f0 c.requires.framed v c.args.state c.requires.state c.requires.member small round_down lower_side
-    c.best-inside-upper.result.1 c.in-Some-lower.below c.best-inside-upper.ensures.lower c.in-Some-lower.is in
+    c.best_inside-upper.result.1 c.in-Some-lower.below c.best_inside-upper.ensures.lower c.in-Some-lower.is in
     let chosen = is_best f0 c.requires.framed v c.args.state c.requires.state c.requires.member small round_down lower_side
-    c.best-inside-upper.result.1 c.in-Some-lower.below c.best-inside-upper.ensures.lower c.in-Some-lower.is in
+    c.best_inside-upper.result.1 c.in-Some-lower.below c.best_inside-upper.ensures.lower c.in-Some-lower.is in
     let l : c.args.state < length c.args.vector.now = (let q = c.requires.size in let h = c.requires.state in omega arith) in
     let low = c.requires.natural c.args.state l in
     let high = c.requires.capped c.args.state l in
@@ -84,7 +84,7 @@ returns c =
     let u : c.gained.result.up ≡ c.in-Some.above.value -ℤ get_or c.args.vector.now c.args.state (pos 0) = simp to_z-of_z at c.gained.ensures.up in
     let d : c.gained.result.down ≡ c.in-Some-lower.below.value -ℤ get_or c.args.vector.now c.args.state (pos 0) = simp to_z-of_z at c.gained.ensures.down in
     let eu = value_is f0 c.requires.framed v c.args.state c.requires.state c.requires.member small round_up upper_side
-    c.best-inside-upper.result.0 c.in-Some.above c.best-inside-upper.ensures.upper c.in-Some.is in
+    c.best_inside-upper.result.0 c.in-Some.above c.best_inside-upper.ensures.upper c.in-Some.is in
     let ed = ap (λ (x : Candidate). x.value) chosen in
     record {
       up = omega (arith, ints);
@@ -94,8 +94,8 @@ returns c =
       high = (omega (arith, ints), omega (arith, ints));
     }
 
-pub unreachable-requires-in-default-lower : goal.unreachable-requires-in-default-lower
-unreachable-requires-in-default-lower c =
+pub unreachable-requires-in_default-lower : goal.unreachable-requires-in_default-lower
+unreachable-requires-in_default-lower c =
     not_missing (table_of c.args.frame.now) c.requires.framed.lawful round_down lower_side (vector_of c.args.vector.now)
     (capped c.args.vector.now (table_of c.args.frame.now).states c.requires.size c.requires.natural c.requires.capped)
-    c.args.state c.requires.member c.best-inside-upper.result.1 c.best-inside-upper.ensures.lower c.in-default-lower.is
+    c.args.state c.requires.member c.best_inside-upper.result.1 c.best_inside-upper.ensures.lower c.in_default-lower.is

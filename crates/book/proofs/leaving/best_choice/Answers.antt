@@ -58,9 +58,9 @@ loop-choice-preserved g c =
           let q : z ≡ means s i =
           to_z-of_z w64 w.round-value.result fr ∙ w.round-value.ensures
           ∙ ap (λ (t : ℤ). rounds t f.denominator) (to_z-of_z w64 w.total-sum.result fs ∙ sum) in
-          w.best_is ∙ w.improved-best.ensures
+          w.best-is ∙ w.improved-best.ensures
           ∙ leaving_more M means s i c.args.best c.loop-choice.best c.loop-choice.invariant (sym there ∙ w.if-not-frame-place.true) z q)
-      | else-not-frame-place w ↦ w.best_is
+      | else-not-frame-place w ↦ w.best-is
           ∙ inside_more M means s i c.args.best c.loop-choice.best c.loop-choice.invariant (sym there ∙ w.if-not-frame-place.false)
     ]
 

@@ -8,8 +8,8 @@ use Rattle.book.specs.Frames.{table_of, start_at}
 use Rattle.book.proofs.Exits.{over_state, member_state, member_more, member_all}
 use Rattle.book.proofs.leaving.best_exit.Goals as goal
 
-pub best-choice-best-requires : goal.best-choice-best-requires
-best-choice-best-requires g c =
+pub best_choice-best-requires : goal.best_choice-best-requires
+best_choice-best-requires g c =
     let f : Frame = c.args.frame.now in
     record {
       framed = c.requires.framed;
@@ -26,7 +26,7 @@ loop-place-preserved g c =
     let i : ℕ = c.loop-place.place in
     let means : ℕ → ℕ → ℤ = mean_of M g.S.Side.rounds c.args.values.now in
     let start : Option Candidate = staying M c.args.bounds.now v in
-    c.best-choice-best.ensures
+    c.best_choice-best.ensures
     ∙ ap (λ (b : Option Candidate). over_state M means b (get_or f.members.now i 0)) c.loop-place.invariant
     ∙ member_more f c.requires.framed v c.requires.node means start i (omega arith) (omega arith)
 

@@ -6,8 +6,8 @@ use Rattle.book.specs.Sweeps.{stay_in}
 use Rattle.book.proofs.Exits.{stays_is, stays_known}
 use Rattle.book.proofs.leaving.stay.Goals as goal
 
-pub stay-in-requires : goal.stay-in-requires
-stay-in-requires c =
+pub stay_in-requires : goal.stay_in-requires
+stay_in-requires c =
     let f : Frame = c.args.frame.now in
     let v : ℕ = c.args.node in
     subst (λ (o : Option ℕ). IfSome o (λ i. i < length c.args.bounds.now)) (sym (c.requires.framed.component-at v c.requires.node))
@@ -17,6 +17,6 @@ pub returns : goal.returns
 returns c =
     let f : Frame = c.args.frame.now in
     let v : ℕ = c.args.node in
-    c.stay-in.ensures
+    c.stay_in.ensures
     ∙ ap (λ (o : Option ℕ). stay_in o c.args.bounds.now) (c.requires.framed.component-at v c.requires.node)
     ∙ stays_is (setting_of (table_of f)) c.args.bounds.now v

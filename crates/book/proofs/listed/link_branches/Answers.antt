@@ -8,8 +8,8 @@ pub loop-i-preserved : goal.loop-i-preserved
 loop-i-preserved c =
     let f : ℕ × ℕ → ℕ × ℕ = link_of (node_in c.args.parts.now) in
     let w : ℕ = (get_or c.args.branches.now c.loop-i.i (0, 0)).1 in
-    c.in-ok-push.ensures.items
-    ∙ ap₂ (λ (xs : List (ℕ × ℕ)) (v : ℕ). xs ++ ((v, w) ∷ [])) c.loop-i.invariant c.node-of.ensures
+    c.in_ok-push.ensures.items
+    ∙ ap₂ (λ (xs : List (ℕ × ℕ)) (v : ℕ). xs ++ ((v, w) ∷ [])) c.loop-i.invariant c.node_of.ensures
     ∙ sym (map_more f c.args.branches.now c.loop-i.i (0, 0) (omega arith))
 
 pub returns : goal.returns

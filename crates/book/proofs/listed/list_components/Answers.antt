@@ -5,9 +5,9 @@ use Rattle.book.proofs.listed.list_components.Goals as goal
 
 pub loop-v-preserved : goal.loop-v-preserved
 loop-v-preserved c =
-    c.in-ok-push.ensures.items
+    c.in_ok-push.ensures.items
     ∙ appended_more [] (vec_items c.loop-v.component) (component_in c.args.parts.now)
-    c.loop-v.v c.component-at.result c.loop-v.invariant c.component-at.ensures
+    c.loop-v.v c.component_at.result c.loop-v.invariant c.component_at.ensures
 
 pub returns : goal.returns
 returns c =

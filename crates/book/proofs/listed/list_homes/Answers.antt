@@ -5,10 +5,10 @@ use Rattle.book.proofs.listed.list_homes.Goals as goal
 
 pub returns : goal.returns
 returns c =
-    let f = with_items_is c.in-ok-home.home c.write-homes.new.home (c.write-homes.auto.home ∙ c.deref-mut.ensures.len) in
+    let f = with_items_is c.in_ok-home.home c.write_homes.new.home (c.write_homes.auto.home ∙ c.deref_mut.ensures.len) in
     record {
       size =
-          ap length f ∙ c.write-homes.auto.home ∙ ap length (c.deref-mut.ensures.value ∙ c.in-ok-home.ensures)
+          ap length f ∙ c.write_homes.auto.home ∙ ap length (c.deref_mut.ensures.value ∙ c.in_ok-home.ensures)
           ∙ length-replicate c.args.components 0;
-      homes = subst (λ (xs : List ℕ). Homes c.args.component.now xs) (sym f) c.write-homes.ensures;
+      homes = subst (λ (xs : List ℕ). Homes c.args.component.now xs) (sym f) c.write_homes.ensures;
     }

@@ -5,9 +5,9 @@ use Rattle.book.proofs.listed.list_nodes.Goals as goal
 
 pub loop-state-preserved : goal.loop-state-preserved
 loop-state-preserved c =
-    c.in-ok-push.ensures.items
+    c.in_ok-push.ensures.items
     ∙ appended_more [] (vec_items c.loop-state.node) (node_in c.args.parts.now)
-    c.loop-state.state c.node-of.result c.loop-state.invariant c.node-of.ensures
+    c.loop-state.state c.node_of.result c.loop-state.invariant c.node_of.ensures
 
 pub returns : goal.returns
 returns c =

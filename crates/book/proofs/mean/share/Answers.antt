@@ -4,8 +4,8 @@ use Rattle.std.proofs.lemmas.Int.{ints, to_z-of_z}
 use Rattle.book.proofs.Rows.{scaled}
 use Rattle.book.proofs.mean.share.Goals as goal
 
-pub overflow-mul-result : goal.overflow-mul-result
-overflow-mul-result c =
+pub overflow_mul-result : goal.overflow_mul-result
+overflow_mul-result c =
     let fv : SFits w64 c.args.value = search rules in
     let fw : SFits w64 (pos c.args.weight) = omega (arith, ints) in
     let b = scaled c.args.weight c.args.value (2 ^ 46) c.requires.low c.requires.high in

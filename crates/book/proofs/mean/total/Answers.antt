@@ -28,8 +28,8 @@ share-sum-requires c =
     let fits : SFits w64 (get_or c.args.values.now (place_at row first b) (pos 0)) = omega (arith, ints) in
     record { light = omega arith; low = simp to_z-of_z low; high = simp to_z-of_z high }
 
-pub overflow-add-sum : goal.overflow-add-sum
-overflow-add-sum c = let w = weights c in omega (arith, ints)
+pub overflow_add-sum : goal.overflow_add-sum
+overflow_add-sum c = let w = weights c in omega (arith, ints)
 
 pub loop-b-preserved : goal.loop-b-preserved
 loop-b-preserved c =
@@ -48,8 +48,8 @@ loop-b-preserved c =
     let v : c.share-sum.result ≡ f b = simp to_z-of_z at c.share-sum.ensures.value in
     let fr : SFits w64 c.share-sum.result = omega (arith, ints) in
     let ft : SFits w64 (c.loop-b.sum +ℤ c.share-sum.result) = omega (arith, ints) in
-    let iv : c.loop-b.sum ≡ run_sum row first values b = sym c.loop-b.sum_is ∙ c.loop-b.invariant.0 in (
-      simp (c.loop-b.sum_is, to_z-of_z) (ap (λ (s : ℤ). s +ℤ c.share-sum.result) iv ∙ ap (λ (x : ℤ). run_sum row first values b +ℤ x) v ∙ sym m),
+    let iv : c.loop-b.sum ≡ run_sum row first values b = sym c.loop-b.sum-is ∙ c.loop-b.invariant.0 in (
+      simp (c.loop-b.sum-is, to_z-of_z) (ap (λ (s : ℤ). s +ℤ c.share-sum.result) iv ∙ ap (λ (x : ℤ). run_sum row first values b +ℤ x) v ∙ sym m),
       omega (arith, ints),
       omega (arith, ints),
     )

@@ -12,8 +12,8 @@ module _ (g : _) (c : goal.After-round g) where
   reward : c.scaled.result ≡ pos 1048576 *ℤ c.args.reward
   reward = let f : SFits w32 c.args.reward = search rules in simp to_z-of_z at c.scaled.ensures.value
 
-pub overflow-add-result : goal.overflow-add-result
-overflow-add-result g c =
+pub overflow_add-result : goal.overflow_add-result
+overflow_add-result g c =
     let b = bound g c in
     let l = c.scaled.ensures.low in
     let h = c.scaled.ensures.high in

@@ -20,8 +20,8 @@ returns c =
     let a = c.requires.framed.node_at c.args.state c.requires.known in
     let n = c.requires.framed.node-size in
     let q = (choices_full c.args.frame.now c.requires.framed c.args.state c.requires.known).0 in
-    let r = c.first-into.ensures in
+    let r = c.first_into.ensures in
     record {
-      found = λ e. (let l = ltb-true c.first-into.result (state_row c.args.frame.now c.args.state).count e in (omega arith, omega arith, omega arith));
-      missed = λ e w. (let l = ltb-false c.first-into.result (state_row c.args.frame.now c.args.state).count e in let k = w.2 in omega arith);
+      found = λ e. (let l = ltb-true c.first_into.result (state_row c.args.frame.now c.args.state).count e in (omega arith, omega arith, omega arith));
+      missed = λ e w. (let l = ltb-false c.first_into.result (state_row c.args.frame.now c.args.state).count e in let k = w.2 in omega arith);
     }

@@ -10,8 +10,8 @@ use Rattle.book.specs.Plays.{Ready, Measured, play_by}
 use Rattle.book.proofs.Distances.{distance_other, toward_into}
 use Rattle.book.proofs.play.played.Goals as goal
 
-pub overflow-sub-marks : goal.overflow-sub-marks
-overflow-sub-marks c =
+pub overflow_sub-marks : goal.overflow_sub-marks
+overflow_sub-marks c =
     let T : Table = table_of c.args.frame.now in
     let s : ℕ = c.args.state in
     let q : c.args.exit ≡ Leave c.in-Leave.target c.in-Leave.choice = cc in
@@ -29,5 +29,5 @@ returns-else-state-target c =
     let q : c.args.exit ≡ Leave t c.in-Leave.choice = cc in
     let m : Measured T (node_of T s) t c.args.marks.now = subst (λ (e : Exit). Ready T (node_of T s) e c.args.marks.now) q c.requires.ready in
     let w = toward_into T c.requires.framed.lawful t s c.args.marks.now c.requires.known c.if-state-target.false m in
-    c.first-into.ensures ∙ w ∙ sym (cond-false (eqb s t) c.in-Leave.choice (toward T t s) (ne_eqb s t c.if-state-target.false))
+    c.first_into.ensures ∙ w ∙ sym (cond-false (eqb s t) c.in-Leave.choice (toward T t s) (ne_eqb s t c.if-state-target.false))
     ∙ ap (λ (e : Exit). play_by T c.args.recorded.now e s) (sym q)

@@ -6,16 +6,16 @@ use Rattle.components.proofs.Law.{nodes_within}
 use Rattle.book.specs.Frames.{table_of}
 use Rattle.book.proofs.play.write_nodes.Goals as goal
 
-pub overflow-cast-v : goal.overflow-cast-v
-overflow-cast-v c =
+pub overflow_cast-v : goal.overflow_cast-v
+overflow_cast-v c =
     let T : Table = table_of c.args.frame.now in
     let m = (nodes_within T.states T c.requires.framed.lawful refl).0 in
     let s = c.requires.framed.lawful.states.1 in
     let p = c.requires.plan in
     omega arith
 
-pub overflow-cast-v-in-loop-v : goal.overflow-cast-v-in-loop-v
-overflow-cast-v-in-loop-v c =
+pub overflow_cast-v-in-loop-v : goal.overflow_cast-v-in-loop-v
+overflow_cast-v-in-loop-v c =
     let T : Table = table_of c.args.frame.now in
     let m = (nodes_within T.states T c.requires.framed.lawful refl).0 in
     let s = c.requires.framed.lawful.states.1 in

@@ -14,11 +14,11 @@ returns c =
     let B = book_of c.args.book.now in
     let K = c.requires.kept in
     let r = c.requires.room in
-    let m : T.states ≤ length c.write-nodes.new.list = omega arith in
+    let m : T.states ≤ length c.write_nodes.new.list = omega arith in
     record {
-      list = filled T.states (play T B) c.write-nodes.new.list c.args.list.now m
-          (λ s h. play_written T B s _ _ (at c.write-nodes.new.list s) (c.write-nodes.ensures.written s h) c.deref.ensures.value c.deref-2.ensures.value)
-          c.write-nodes.ensures.rest;
+      list = filled T.states (play T B) c.write_nodes.new.list c.args.list.now m
+          (λ s h. play_written T B s _ _ (at c.write_nodes.new.list s) (c.write_nodes.ensures.written s h) c.deref.ensures.value c.deref-2.ensures.value)
+          c.write_nodes.ensures.rest;
       book = refl;
       kept = record { fit = K.fit; natural = K.natural; halfway = K.halfway; marks = K.marks };
     }

@@ -11,8 +11,8 @@ module _ (c : goal.After-round) where
   bound : (neg_ℤ (pos (2 ^ 48)) ≤ℤ c.round.result) × (c.round.result ≤ℤ pos (2 ^ 48))
   bound = rw rounded (down_within c.args.down 2 (2 ^ 48) c.requires.down.0 c.requires.down.1)
 
-pub overflow-add-result : goal.overflow-add-result
-overflow-add-result c =
+pub overflow_add-result : goal.overflow_add-result
+overflow_add-result c =
     let b = bound c in
     let l = c.requires.here.0 in
     let h = c.requires.here.1 in

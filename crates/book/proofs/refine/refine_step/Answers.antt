@@ -35,8 +35,8 @@ survey-found-requires c =
       natural = kept_natural T b K w c.deref.ensures.value;
       capped = kept_capped T b K w c.deref.ensures.value;
       room = (
-        ap (λ (l : List ℤ). length l) c.deref-mut.ensures.value ∙ sym b.halfway.ok.0 ∙ K.halfway,
-        ap (λ (l : List ℕ). length l) c.deref-mut-2.ensures.value ∙ sym b.marks.ok.0 ∙ K.marks,
+        ap (λ (l : List ℤ). length l) c.deref_mut.ensures.value ∙ sym b.halfway.ok.0 ∙ K.halfway,
+        ap (λ (l : List ℕ). length l) c.deref_mut-2.ensures.value ∙ sym b.marks.ok.0 ∙ K.marks,
       );
     }
 
@@ -64,7 +64,7 @@ shift-requires c =
     let w : List ℤ = c.deref.result.now in
     let t : ℕ → ℕ = vector_of w in
     let M : Setting = setting_of T in
-    let e = ap (λ (l : List ℤ). length l) c.deref-mut.ensures.value in
+    let e = ap (λ (l : List ℤ). length l) c.deref_mut.ensures.value in
     let o = b.halfway.ok.0 in
     let kept = c.survey-found.auto.halfway in
     let z : length c.survey-found.new.halfway ≡ vec_len b.halfway = omega arith in
@@ -78,7 +78,7 @@ shift-requires c =
       framed = c.requires.framed;
       component = c.requires.component;
       size = (
-        kept_size T b K c.deref-mut-6.result.now c.deref-mut-6.ensures.value,
+        kept_size T b K c.deref_mut-6.result.now c.deref_mut-6.ensures.value,
         ap (λ (l : List ℤ). length l) half ∙ z ∙ K.halfway,
       );
       above = λ s h m.
@@ -108,12 +108,12 @@ returns c =
     let w : List ℤ = c.deref.result.now in
     let dv : w ≡ v = c.deref.ensures.value in
     let t : ℕ → ℕ = vector_of v in
-    let eh = ap (λ (l : List ℤ). length l) c.deref-mut.ensures.value in
+    let eh = ap (λ (l : List ℤ). length l) c.deref_mut.ensures.value in
     let oh = b.halfway.ok.0 in
     let kh = c.survey-found.auto.halfway in
     let zh : length c.survey-found.new.halfway ≡ vec_len b.halfway = omega arith in
     let half : c.deref-3.result.now ≡ c.survey-found.new.halfway = c.deref-3.ensures.value ∙ with_items_is b.halfway c.survey-found.new.halfway zh in
-    let em = ap (λ (l : List ℕ). length l) c.deref-mut-2.ensures.value in
+    let em = ap (λ (l : List ℕ). length l) c.deref_mut-2.ensures.value in
     let om = b.marks.ok.0 in
     let km = c.survey-found.auto.marks in
     let zm : length c.survey-found.new.marks ≡ vec_len b.marks = omega arith in
@@ -140,42 +140,42 @@ returns c =
     let up-read : to_z w64 (of_z w64 c.survey-found.result.up) ≡ largest_up M t k = to_z-of_z w64 c.survey-found.result.up fu ∙ up in
     let rises : c.raise-rises.result ≡ lt_z (at_z B.lo k) (least_down M t k) =
     c.raise-rises.ensures.rises
-    ∙ ap (λ (z : ℤ). lt_z (at_z c.deref-mut-3.result.now k) z) down-read
-    ∙ ap (λ (l : List ℤ). lt_z (at_z l k) (least_down M t k)) c.deref-mut-3.ensures.value in
+    ∙ ap (λ (z : ℤ). lt_z (at_z c.deref_mut-3.result.now k) z) down-read
+    ∙ ap (λ (l : List ℤ). lt_z (at_z l k) (least_down M t k)) c.deref_mut-3.ensures.value in
     let lo1 : c.raise-rises.new.lo ≡ set B.lo k (next_lo M t k (at_z B.lo k)) =
     c.raise-rises.ensures.bound
-    ∙ ap (λ (z : ℤ). set c.deref-mut-3.result.now k (cond (lt_z (at_z c.deref-mut-3.result.now k) z) z (at_z c.deref-mut-3.result.now k))) down-read
-    ∙ ap (λ (l : List ℤ). set l k (next_lo M t k (at_z l k))) c.deref-mut-3.ensures.value in
+    ∙ ap (λ (z : ℤ). set c.deref_mut-3.result.now k (cond (lt_z (at_z c.deref_mut-3.result.now k) z) z (at_z c.deref_mut-3.result.now k))) down-read
+    ∙ ap (λ (l : List ℤ). set l k (next_lo M t k (at_z l k))) c.deref_mut-3.ensures.value in
     let hi1 : c.lower.new.hi ≡ set B.hi k (next_hi M t k (at_z B.hi k)) =
     c.lower.ensures
-    ∙ ap (λ (z : ℤ). set c.deref-mut-4.result.now k (cond (lt_z z (at_z c.deref-mut-4.result.now k)) z (at_z c.deref-mut-4.result.now k))) up-read
-    ∙ ap (λ (l : List ℤ). set l k (next_hi M t k (at_z l k))) c.deref-mut-4.ensures.value in
-    let zl : length c.raise-rises.new.lo ≡ vec_len b.lo = (let e = ap (λ (l : List ℤ). length l) c.deref-mut-3.ensures.value in let o = b.lo.ok.0 in let q = c.raise-rises.auto.lo in omega arith) in
-    let zu : length c.lower.new.hi ≡ vec_len b.hi = (let e = ap (λ (l : List ℤ). length l) c.deref-mut-4.ensures.value in let o = b.hi.ok.0 in let q = c.lower.auto.hi in omega arith) in
-    let er = ap (λ (l : List ℕ). length l) c.deref-mut-5.ensures.value in
-    let kr = c.record-marks.auto.recorded in
-    let zr : length c.record-marks.new.recorded ≡ vec_len b.recorded = (let o = b.recorded.ok.0 in omega arith) in
-    let ev = ap (λ (l : List ℤ). length l) c.deref-mut-6.ensures.value in
+    ∙ ap (λ (z : ℤ). set c.deref_mut-4.result.now k (cond (lt_z z (at_z c.deref_mut-4.result.now k)) z (at_z c.deref_mut-4.result.now k))) up-read
+    ∙ ap (λ (l : List ℤ). set l k (next_hi M t k (at_z l k))) c.deref_mut-4.ensures.value in
+    let zl : length c.raise-rises.new.lo ≡ vec_len b.lo = (let e = ap (λ (l : List ℤ). length l) c.deref_mut-3.ensures.value in let o = b.lo.ok.0 in let q = c.raise-rises.auto.lo in omega arith) in
+    let zu : length c.lower.new.hi ≡ vec_len b.hi = (let e = ap (λ (l : List ℤ). length l) c.deref_mut-4.ensures.value in let o = b.hi.ok.0 in let q = c.lower.auto.hi in omega arith) in
+    let er = ap (λ (l : List ℕ). length l) c.deref_mut-5.ensures.value in
+    let kr = c.record_marks.auto.recorded in
+    let zr : length c.record_marks.new.recorded ≡ vec_len b.recorded = (let o = b.recorded.ok.0 in omega arith) in
+    let ev = ap (λ (l : List ℤ). length l) c.deref_mut-6.ensures.value in
     let kv = c.shift.auto.vector in
     let zv : length c.shift.new.vector ≡ vec_len b.vector = (let o = b.vector.ok.0 in omega arith) in
-    let sr : length c.record-marks.new.recorded ≡ T.states = (let q = K.fit.lengths.recorded in let o = b.recorded.ok.0 in omega arith) in
+    let sr : length c.record_marks.new.recorded ≡ T.states = (let q = K.fit.lengths.recorded in let o = b.recorded.ok.0 in omega arith) in
     let sv : length c.shift.new.vector ≡ T.states = (let q = kept_size T b K v refl in let o = b.vector.ok.0 in omega arith) in
-    let written : (s : ℕ) → s < T.states → at c.record-marks.new.recorded s ≡ cond (states_of T k s && c.raise-rises.result) (at c.deref-2.result.now s) (at B.recorded s) =
-    λ s h. c.record-marks.ensures s h ∙ ap (λ (l : List ℕ). cond (states_of T k s && c.raise-rises.result) (at c.deref-2.result.now s) (at l s)) c.deref-mut-5.ensures.value in
+    let written : (s : ℕ) → s < T.states → at c.record_marks.new.recorded s ≡ cond (states_of T k s && c.raise-rises.result) (at c.deref-2.result.now s) (at B.recorded s) =
+    λ s h. c.record_marks.ensures s h ∙ ap (λ (l : List ℕ). cond (states_of T k s && c.raise-rises.result) (at c.deref-2.result.now s) (at l s)) c.deref_mut-5.ensures.value in
     let least-read = to_z-of_z w64 c.survey-found.result.least fl in
     let moved : (s : ℕ) → s < T.states → get_or c.shift.new.vector s (pos 0) ≡ cond (states_of T k s && not c.apart-held.result) (get_or c.deref-3.result.now s (pos 0) -ℤ c.survey-found.result.least) (get_or v s (pos 0)) =
     λ s h. c.shift.ensures s h
-    ∙ ap (λ (z : ℤ). cond (states_of T k s && not c.apart-held.result) (get_or c.deref-3.result.now s (pos 0) -ℤ z) (get_or c.deref-mut-6.result.now s (pos 0))) least-read
-    ∙ ap (λ (l : List ℤ). cond (states_of T k s && not c.apart-held.result) (get_or c.deref-3.result.now s (pos 0) -ℤ c.survey-found.result.least) (get_or l s (pos 0))) c.deref-mut-6.ensures.value in
+    ∙ ap (λ (z : ℤ). cond (states_of T k s && not c.apart-held.result) (get_or c.deref-3.result.now s (pos 0) -ℤ z) (get_or c.deref_mut-6.result.now s (pos 0))) least-read
+    ∙ ap (λ (l : List ℤ). cond (states_of T k s && not c.apart-held.result) (get_or c.deref-3.result.now s (pos 0) -ℤ c.survey-found.result.least) (get_or l s (pos 0))) c.deref_mut-6.ensures.value in
     let vector1 = next-vector T L k known v K.natural c.deref-3.result.now c.survey-found.result.least c.apart-held.result c.shift.new.vector at-half is-least is_held moved sv in
-    let recorded1 = next-recorded T L k known v K.natural c.deref-2.result.now B.recorded c.record-marks.new.recorded c.raise-rises.result (at_z B.lo k) sr at_mark rises written in
+    let recorded1 = next-recorded T L k known v K.natural c.deref-2.result.now B.recorded c.record_marks.new.recorded c.raise-rises.result (at_z B.lo k) sr at_mark rises written in
     let rv = with_items_is b.vector c.shift.new.vector zv in
-    let book : book_of (record { vector = with_items b.vector c.shift.new.vector; recorded = with_items b.recorded c.record-marks.new.recorded; lo = with_items b.lo c.raise-rises.new.lo; hi = with_items b.hi c.lower.new.hi; x = b.x; y = b.y; plan = b.plan; halfway = with_items b.halfway c.survey-found.new.halfway; marks = with_items b.marks c.survey-found.new.marks }) ≡ step M k B =
+    let book : book_of (record { vector = with_items b.vector c.shift.new.vector; recorded = with_items b.recorded c.record_marks.new.recorded; lo = with_items b.lo c.raise-rises.new.lo; hi = with_items b.hi c.lower.new.hi; x = b.x; y = b.y; plan = b.plan; halfway = with_items b.halfway c.survey-found.new.halfway; marks = with_items b.marks c.survey-found.new.marks }) ≡ step M k B =
     step_by M k v B.recorded B.lo B.hi B.x B.y B.plan
-    (map nat_abs (vec_items (with_items b.vector c.shift.new.vector))) (vec_items (with_items b.recorded c.record-marks.new.recorded))
+    (map nat_abs (vec_items (with_items b.vector c.shift.new.vector))) (vec_items (with_items b.recorded c.record_marks.new.recorded))
     (vec_items (with_items b.lo c.raise-rises.new.lo)) (vec_items (with_items b.hi c.lower.new.hi))
     (ap (λ (l : List ℤ). map nat_abs l) rv ∙ vector1)
-    (with_items_is b.recorded c.record-marks.new.recorded zr ∙ recorded1)
+    (with_items_is b.recorded c.record_marks.new.recorded zr ∙ recorded1)
     (with_items_is b.lo c.raise-rises.new.lo zl ∙ lo1)
     (with_items_is b.hi c.lower.new.hi zu ∙ hi1) in
     record {

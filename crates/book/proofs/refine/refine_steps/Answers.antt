@@ -51,8 +51,8 @@ returns-then-narrow c =
       kept = c.loop-made.invariant.2;
     }
 
-pub returns-then-refine-step : goal.returns-then-refine-step
-returns-then-refine-step c =
+pub returns-then-refine_step : goal.returns-then-refine_step
+returns-then-refine_step c =
     let M : Setting = setting_of (table_of c.args.frame.now) in
     let B : rules.Book = book_of c.loop-made.book in
     let k : ℕ = c.args.component in
@@ -65,18 +65,18 @@ returns-then-refine-step c =
     ∙ ap (λ (l : List ℤ). le_z (at_z l k -ℤ at_z B.lo k) (pos width)) c.deref-in-loop-made.ensures.value)
     ∙ sym c.narrow.ensures ∙ c.if-narrow.false in
     let end : refine M k (n - i) width B ≡ record { book = step M k B; made = 1 } =
-    ap (λ (j : ℕ). refine M k j width B) more ∙ refine_held M k (n - (i + 1)) width B test (sym c.refine-step.ensures.held ∙ c.if-refine-step.true) in
+    ap (λ (j : ℕ). refine M k j width B) more ∙ refine_held M k (n - (i + 1)) width B test (sym c.refine_step.ensures.held ∙ c.if-refine_step.true) in
     record {
       made = ap (λ (r : Refined). i + r.made) (sym end) ∙ c.loop-made.invariant.1;
-      book = c.refine-step.ensures.book ∙ sym (ap (λ (r : Refined). r.book) end) ∙ c.loop-made.invariant.0;
-      kept = c.refine-step.ensures.kept;
+      book = c.refine_step.ensures.book ∙ sym (ap (λ (r : Refined). r.book) end) ∙ c.loop-made.invariant.0;
+      kept = c.refine_step.ensures.kept;
     }
 
 pub loop-made-preserved : goal.loop-made-preserved
 loop-made-preserved c =
     let M : Setting = setting_of (table_of c.args.frame.now) in
     let B : rules.Book = book_of c.loop-made.book in
-    let after : rules.Book = book_of c.refine-step.new.book in
+    let after : rules.Book = book_of c.refine_step.new.book in
     let k : ℕ = c.args.component in
     let i : ℕ = c.loop-made.made in
     let n : ℕ = c.args.steps in
@@ -87,15 +87,15 @@ loop-made-preserved c =
     sym (ap (λ (l : List ℤ). le_z (at_z c.deref-in-loop-made.result.now k -ℤ at_z l k) (pos width)) c.deref.ensures.value
     ∙ ap (λ (l : List ℤ). le_z (at_z l k -ℤ at_z B.lo k) (pos width)) c.deref-in-loop-made.ensures.value)
     ∙ sym c.narrow.ensures ∙ c.if-narrow.false in
-    let stepped : step M k B ≡ after = sym c.refine-step.ensures.book in
+    let stepped : step M k B ≡ after = sym c.refine_step.ensures.book in
     let end : refine M k (n - i) width B ≡ on M k m width B =
-    ap (λ (j : ℕ). refine M k j width B) more ∙ refine_on M k m width B test (sym c.refine-step.ensures.held ∙ c.if-refine-step.false) in
+    ap (λ (j : ℕ). refine M k j width B) more ∙ refine_on M k m width B test (sym c.refine_step.ensures.held ∙ c.if-refine_step.false) in
     let count : (refine M k (n - i) width B).made ≡ suc (refine M k m width after).made =
     ap (λ (r : Refined). r.made) end ∙ ap (λ (A : rules.Book). suc (refine M k m width A).made) stepped in
     let moved : (i + 1) + (refine M k m width after).made ≡ i + suc (refine M k m width after).made = omega arith in (
       sym (ap (λ (r : Refined). r.book) end ∙ ap (λ (A : rules.Book). (refine M k m width A).book) stepped) ∙ c.loop-made.invariant.0,
       moved ∙ ap (λ (j : ℕ). i + j) (sym count) ∙ c.loop-made.invariant.1,
-      c.refine-step.ensures.kept,
+      c.refine_step.ensures.kept,
     )
 
 pub returns : goal.returns

@@ -15,8 +15,8 @@ bounds-halfway-state c =
     let z = c.requires.size.1 in
     omega arith
 
-pub overflow-sub-vector : goal.overflow-sub-vector
-overflow-sub-vector c =
+pub overflow_sub-vector : goal.overflow_sub-vector
+overflow_sub-vector c =
     let f : Frame = c.args.frame.now in
     let k : ℕ = c.args.component in
     let F = c.requires.framed in

@@ -15,8 +15,8 @@ use Rattle.book.proofs.StepExtremes.{home_of, home_node, to_state, to_node, high
 use Rattle.book.proofs.Halves.{gain_within, halfway_within}
 use Rattle.book.proofs.refine.survey.Goals as goal
 
-pub gain-at-gain-requires : goal.gain-at-gain-requires
-gain-at-gain-requires c =
+pub gain_at-gain-requires : goal.gain_at-gain-requires
+gain_at-gain-requires c =
     let f : Frame = c.args.frame.now in
     let k : ℕ = c.args.component in
     let F = c.requires.framed in
@@ -38,8 +38,8 @@ bounds-vector-state c =
     let z = c.requires.size in
     omega arith
 
-pub half-way-half-requires : goal.half-way-half-requires
-half-way-half-requires c =
+pub half_way-half-requires : goal.half_way-half-requires
+half_way-half-requires c =
     let f : Frame = c.args.frame.now in
     let k : ℕ = c.args.component in
     let F = c.requires.framed in
@@ -50,10 +50,10 @@ half-way-half-requires c =
     let l : s < length c.args.vector.now = omega arith in
     let low = c.requires.natural s l in
     let high = c.requires.capped s l in
-    let a = c.gain-at-gain.ensures.low.1 in
-    let b = c.gain-at-gain.ensures.high.1 in
+    let a = c.gain_at-gain.ensures.low.1 in
+    let b = c.gain_at-gain.ensures.high.1 in
     let fv : SFits w64 (get_or c.args.vector.now s (pos 0)) = omega (arith, ints) in
-    let fd : SFits w64 c.gain-at-gain.result.down = omega (arith, ints) in
+    let fd : SFits w64 c.gain_at-gain.result.down = omega (arith, ints) in
     record { here = (simp to_z-of_z low, simp to_z-of_z high); down = (simp to_z-of_z a, simp to_z-of_z b) }
 
 pub bounds-halfway-state : goal.bounds-halfway-state
@@ -72,7 +72,7 @@ bounds-marks-state c =
 
 module _ (c : goal.After-widened-found) where
   -- what half_way computes is the halfway number
-  is_halfway : c.half-way-half.result ≡ halfway (setting_of (table_of c.args.frame.now)) (vector_of c.args.vector.now) (member_at c.args.frame.now c.loop-place.place)
+  is_halfway : c.half_way-half.result ≡ halfway (setting_of (table_of c.args.frame.now)) (vector_of c.args.vector.now) (member_at c.args.frame.now c.loop-place.place)
   unfolding halfway
   is_halfway =
       let f : Frame = c.args.frame.now in
@@ -86,13 +86,13 @@ module _ (c : goal.After-widened-found) where
       let l : s < length v = omega arith in
       let low = c.requires.natural s l in
       let high = c.requires.capped s l in
-      let a = c.gain-at-gain.ensures.low.1 in
-      let b = c.gain-at-gain.ensures.high.1 in
+      let a = c.gain_at-gain.ensures.low.1 in
+      let b = c.gain_at-gain.ensures.high.1 in
       let fv : SFits w64 (get_or v s (pos 0)) = omega (arith, ints) in
-      let fd : SFits w64 c.gain-at-gain.result.down = omega (arith, ints) in
-      let e : c.half-way-half.result ≡ get_or v s (pos 0) +ℤ round_down c.gain-at-gain.result.down 2 = simp to_z-of_z at c.half-way-half.ensures in
-      e ∙ ap (λ (y : ℤ). y +ℤ round_down c.gain-at-gain.result.down 2) (natural_is (get_or v s (pos 0)) low)
-      ∙ ap (λ (y : ℤ). pos (nat_abs (get_or v s (pos 0))) +ℤ round_down y 2) c.gain-at-gain.ensures.down
+      let fd : SFits w64 c.gain_at-gain.result.down = omega (arith, ints) in
+      let e : c.half_way-half.result ≡ get_or v s (pos 0) +ℤ round_down c.gain_at-gain.result.down 2 = simp to_z-of_z at c.half_way-half.ensures in
+      e ∙ ap (λ (y : ℤ). y +ℤ round_down c.gain_at-gain.result.down 2) (natural_is (get_or v s (pos 0)) low)
+      ∙ ap (λ (y : ℤ). pos (nat_abs (get_or v s (pos 0))) +ℤ round_down y 2) c.gain_at-gain.ensures.down
 
 pub loop-place-preserved : goal.loop-place-preserved
 loop-place-preserved c =
@@ -108,20 +108,20 @@ loop-place-preserved c =
     let h = m.0 in
     let r0 = c.requires.room.0 in
     let r1 = c.requires.room.1 in
-    let half : ℤ = c.half-way-half.result in
+    let half : ℤ = c.half_way-half.result in
     let e : half ≡ halfway M t s = is_halfway c in
-    let fh : SFits w64 c.half-way-half.result = search rules in
+    let fh : SFits w64 c.half_way-half.result = search rules in
     let low : start_at f v ≤ i = omega arith in
     let old = c.loop-place.found in
     let new = c.widened-found.result in
     let w = c.widened-found.ensures in (
-      highest_more (λ p. gain M round_up t (member_at f p)) (start_at f v) i low old.up new.up c.gain-at-gain.result.up c.gain-at-gain.ensures.up c.loop-place.invariant.0 w.up,
-      lowest_more (λ p. gain M round_down t (member_at f p)) (start_at f v) i low old.down new.down c.gain-at-gain.result.down c.gain-at-gain.ensures.down c.loop-place.invariant.1 w.down,
+      highest_more (λ p. gain M round_up t (member_at f p)) (start_at f v) i low old.up new.up c.gain_at-gain.result.up c.gain_at-gain.ensures.up c.loop-place.invariant.0 w.up,
+      lowest_more (λ p. gain M round_down t (member_at f p)) (start_at f v) i low old.down new.down c.gain_at-gain.result.down c.gain_at-gain.ensures.down c.loop-place.invariant.1 w.down,
       lowest_more (λ p. halfway M t (member_at f p)) (start_at f v) i low old.least new.least half e c.loop-place.invariant.2 (simp to_z-of_z at w.least),
       highest_more (λ p. halfway M t (member_at f p)) (start_at f v) i low old.largest new.largest half e c.loop-place.invariant.3 (simp to_z-of_z at w.largest),
       simp to_z-of_z (subst (λ (y : ℤ). Written f v (pos 0) (halfway M t) (i + 1) c.args.halfway.now (set c.loop-place.halfway s y)) (sym e)
           (written_more f v (pos 0) (halfway M t) i c.args.halfway.now c.loop-place.halfway m.1 (omega arith) c.loop-place.invariant.4)),
-      subst (λ (y : ℕ). Written f v 0 (attains M t) (i + 1) c.args.marks.now (set c.loop-place.marks s y)) (sym c.gain-at-gain.ensures.choice)
+      subst (λ (y : ℕ). Written f v 0 (attains M t) (i + 1) c.args.marks.now (set c.loop-place.marks s y)) (sym c.gain_at-gain.ensures.choice)
           (written_more f v 0 (attains M t) i c.args.marks.now c.loop-place.marks m.1 (omega arith) c.loop-place.invariant.5),
     )
 

@@ -42,7 +42,7 @@ loop-choice-preserved c =
     let o = c.max-largest.ensures in
     simp to_z-of_z
     (among_more T s n _ _ _ _ _ c.loop-choice.invariant h l (simp to_z-of_z (sym (reward_is f c.requires s h n l)))
-    m.value m.self-bound m.other-bound o.value o.self-bound o.other-bound)
+    m.value m.self_bound m.other_bound o.value o.self_bound o.other_bound)
 
 pub loop-state-preserved : goal.loop-state-preserved
 loop-state-preserved c =

@@ -16,7 +16,7 @@ loop-node-preserved c =
     let n : ℕ = c.loop-node.node in
     let l : n < length xs = omega arith in
     let w = fill_by_more (first_exit T) xs n Stay l c.loop-node.invariant in
-    rw c.first-exit.ensures w
+    rw c.first_exit.ensures w
 
 pub returns : goal.returns
 returns c =

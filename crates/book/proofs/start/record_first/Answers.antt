@@ -13,7 +13,7 @@ loop-state-preserved c =
     let n : ℕ = c.loop-state.state in
     let l : n < length xs = omega arith in
     let w = fill_by_more (first_inside T) xs n 0 l c.loop-state.invariant in
-    rw c.first-inside.ensures w
+    rw c.first_inside.ensures w
 
 pub returns : goal.returns
 returns c =

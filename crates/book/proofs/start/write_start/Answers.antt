@@ -21,12 +21,12 @@ returns c =
     let et = c.widest-bottom.ensures.top in
     started T c.requires.framed.lawful _ record {
       vector = filled _ _ _ (pos 0) _ c.fill.ensures.items S.vector refl;
-      recorded = with_items_is B.recorded c.record-first.new.recorded (search rules) ∙ c.record-first.ensures;
+      recorded = with_items_is B.recorded c.record_first.new.recorded (search rules) ∙ c.record_first.ensures;
       lo = filled _ _ _ _ _ (simp to_z-of_z at c.fill-2.ensures.items) S.lo eb;
       hi = filled _ _ _ _ _ (simp to_z-of_z at c.fill-3.ensures.items) S.hi et;
       x = filled _ _ _ _ _ (simp to_z-of_z at c.fill-4.ensures.items) S.x et;
       y = filled _ _ _ _ _ (simp to_z-of_z at c.fill-5.ensures.items) S.y eb;
-      plan = with_items_is B.plan c.plan-first.new.plan (search rules) ∙ c.plan-first.ensures;
+      plan = with_items_is B.plan c.plan_first.new.plan (search rules) ∙ c.plan_first.ensures;
       halfway = S.halfway;
       marks = S.marks;
     }

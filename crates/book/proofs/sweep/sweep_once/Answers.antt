@@ -8,7 +8,7 @@ use Rattle.book.specs.Books.{book_of}
 use Rattle.book.specs.Sweeps.{same_at}
 use Rattle.book.proofs.Sweeps.{quiet, quiet_more, quiet_all, updates_more, updates_none, no_longer, as_before}
 use Rattle.book.proofs.sweep.sweep_once.Goals as goal
-use Rattle.book.proofs.sweep.sweep_once.Goals.{then-not-update-node, else-not-update-node}
+use Rattle.book.proofs.sweep.sweep_once.Goals.{then-not-update_node, else-not-update_node}
 
 pub loop-node-init : goal.loop-node-init
 loop-node-init c = (updates_none (setting_of (table_of c.args.frame.now)) (book_of c.args.book.now), c.requires.kept, refl)
@@ -18,19 +18,19 @@ loop-node-preserved c =
     let M : Setting = setting_of (table_of c.args.frame.now) in
     let A : rules.Book = book_of c.args.book.now in
     let k : ℕ = c.loop-node.node in
-    let after : rules.Book = book_of c.update-node.new.book in
-    let book : after ≡ update M k (updates M k A) = c.update-node.ensures.book ∙ ap (λ (B : rules.Book). update M k B) c.loop-node.invariant.0 in
+    let after : rules.Book = book_of c.update_node.new.book in
+    let book : after ≡ update M k (updates M k A) = c.update_node.ensures.book ∙ ap (λ (B : rules.Book). update M k B) c.loop-node.invariant.0 in
     let now-same : Bool = same_at (updates M k A) (update M k (updates M k A)) k in
-    let same : c.update-node.result ≡ now-same =
-    c.update-node.ensures.same
+    let same : c.update_node.result ≡ now-same =
+    c.update_node.ensures.same
     ∙ ap (λ (B : rules.Book). same_at B after k) c.loop-node.invariant.0
     ∙ ap (λ (B : rules.Book). same_at (updates M k A) B k) book in (
       book ∙ updates_more M A k,
-      c.update-node.ensures.kept,
-      elim c.if-not-update-node.branch [
-        | then-not-update-node w ↦ no_longer (quiet M A k) now-same c.if-not-update-node.quiet (sym same ∙ w.if-not-update-node.true) w.quiet-is
+      c.update_node.ensures.kept,
+      elim c.if-not-update_node.branch [
+        | then-not-update_node w ↦ no_longer (quiet M A k) now-same c.if-not-update_node.quiet (sym same ∙ w.if-not-update_node.true) w.quiet-is
             ∙ quiet_more M A k
-        | else-not-update-node w ↦ as_before (quiet M A k) now-same c.if-not-update-node.quiet (sym same ∙ w.if-not-update-node.false) (w.quiet-is ∙ c.loop-node.invariant.2)
+        | else-not-update_node w ↦ as_before (quiet M A k) now-same c.if-not-update_node.quiet (sym same ∙ w.if-not-update_node.false) (w.quiet-is ∙ c.loop-node.invariant.2)
             ∙ quiet_more M A k
       ],
     )

@@ -7,38 +7,38 @@ use Rattle.book.specs.Books.{book_of}
 use Rattle.book.proofs.Sweeps.{sweeps_none, sweeps_stop, sweeps_on}
 use Rattle.book.proofs.sweep.sweep_times.Goals as goal
 
-pub returns-then-sweep-once : goal.returns-then-sweep-once
-returns-then-sweep-once c =
+pub returns-then-sweep_once : goal.returns-then-sweep_once
+returns-then-sweep_once c =
     let M : Setting = setting_of (table_of c.args.frame.now) in
     let B : rules.Book = book_of c.loop-made.book in
     let k : ℕ = c.loop-made.made in
     let n : ℕ = c.args.count in
     let more : n - k ≡ suc (n - (k + 1)) = omega arith in
-    let stop = sweeps_stop M (n - (k + 1)) B (sym c.sweep-once.ensures.still ∙ c.if-sweep-once.true) in
+    let stop = sweeps_stop M (n - (k + 1)) B (sym c.sweep_once.ensures.still ∙ c.if-sweep_once.true) in
     let one : (sweeps M (n - k) B).made ≡ 1 = ap (λ (j : ℕ). (sweeps M j B).made) more ∙ stop.1 in
     record {
       made = ap (λ (j : ℕ). k + j) (sym one) ∙ c.loop-made.invariant.1;
-      book = c.sweep-once.ensures.book ∙ sym (ap (λ (j : ℕ). (sweeps M j B).book) more ∙ stop.0) ∙ c.loop-made.invariant.0;
-      kept = c.sweep-once.ensures.kept;
+      book = c.sweep_once.ensures.book ∙ sym (ap (λ (j : ℕ). (sweeps M j B).book) more ∙ stop.0) ∙ c.loop-made.invariant.0;
+      kept = c.sweep_once.ensures.kept;
     }
 
 pub loop-made-preserved : goal.loop-made-preserved
 loop-made-preserved c =
     let M : Setting = setting_of (table_of c.args.frame.now) in
     let B : rules.Book = book_of c.loop-made.book in
-    let after : rules.Book = book_of c.sweep-once.new.book in
+    let after : rules.Book = book_of c.sweep_once.new.book in
     let k : ℕ = c.loop-made.made in
     let n : ℕ = c.args.count in
     let m : ℕ = n - (k + 1) in
     let more : n - k ≡ suc (n - (k + 1)) = omega arith in
-    let on = sweeps_on M (n - (k + 1)) B (sym c.sweep-once.ensures.still ∙ c.if-sweep-once.false) in
-    let swept : sweep M B ≡ after = sym c.sweep-once.ensures.book in
+    let on = sweeps_on M (n - (k + 1)) B (sym c.sweep_once.ensures.still ∙ c.if-sweep_once.false) in
+    let swept : sweep M B ≡ after = sym c.sweep_once.ensures.book in
     let count : (sweeps M (n - k) B).made ≡ suc (sweeps M m after).made =
     ap (λ (j : ℕ). (sweeps M j B).made) more ∙ on.1 ∙ ap (λ (A : rules.Book). suc (sweeps M m A).made) swept in
     let moved : (k + 1) + (sweeps M m after).made ≡ k + suc (sweeps M m after).made = omega arith in (
       sym (ap (λ (j : ℕ). (sweeps M j B).book) more ∙ on.0 ∙ ap (λ (A : rules.Book). (sweeps M m A).book) swept) ∙ c.loop-made.invariant.0,
       moved ∙ ap (λ (j : ℕ). k + j) (sym count) ∙ c.loop-made.invariant.1,
-      c.sweep-once.ensures.kept,
+      c.sweep_once.ensures.kept,
     )
 
 pub returns : goal.returns

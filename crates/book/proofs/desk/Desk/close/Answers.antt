@@ -10,10 +10,10 @@ reset-requires c =
     let o = c.frame-frame.ensures in
     record { framed = o.framed; kept = kept_at d.layout c.frame-frame.result o d.book d.kept }
 
-pub invariant-of-self : goal.invariant-of-self
-invariant-of-self c =
+pub invariant_of-self : goal.invariant_of-self
+invariant_of-self c =
     let d = c.args.self.now in
-    (keeps_at d.layout c.frame-frame.result c.frame-frame.ensures c.reset.new.book c.reset.ensures.kept, tt)
+    record { kept = keeps_at d.layout c.frame-frame.result c.frame-frame.ensures c.reset.new.book c.reset.ensures.kept }
 
 pub returns : goal.returns
 returns c =

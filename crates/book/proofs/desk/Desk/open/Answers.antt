@@ -5,16 +5,16 @@ use Rattle.rules.specs.Book.{start}
 use Rattle.book.proofs.Desks.{frame_table, keeps_at}
 use Rattle.book.proofs.desk.Desk.open.Goals as goal
 
-pub invariant-of-result : goal.invariant-of-result
-invariant-of-result g c =
-    (keeps_at c.in-ok-layout.layout c.frame.result c.frame.ensures c.in-ok-book.book c.in-ok-book.ensures.kept, tt)
+pub invariant_of-result : goal.invariant_of-result
+invariant_of-result g c =
+    record { kept = keeps_at c.in_ok-layout.layout c.frame.result c.frame.ensures c.in_ok-book.book c.in_ok-book.ensures.kept }
 
 pub returns : goal.returns
 returns g c =
-    let l = c.in-ok-layout.layout in
-    let e = c.in-ok-layout.ensures in
+    let l = c.in_ok-layout.layout in
+    let e = c.in_ok-layout.ensures in
     record {
       lawful = e.lawful;
       same = e.same;
-      start = c.in-ok-book.ensures.start ∙ ap (λ (T : Table). start (setting_of T)) (frame_table l c.frame.result c.frame.ensures ∙ e.same);
+      start = c.in_ok-book.ensures.start ∙ ap (λ (T : Table). start (setting_of T)) (frame_table l c.frame.result c.frame.ensures ∙ e.same);
     }

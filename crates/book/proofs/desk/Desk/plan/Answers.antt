@@ -10,8 +10,8 @@ returns-then-list-states c =
     let h : length c.args.list.now < (desk_table d).states = omega (arith, c.states.ensures, c.if-list-states.true) in
     record { list = no_plan (desk_table d) (desk_book d) c.args.list.now h; table = refl; book = refl }
 
-pub write-plan-requires : goal.write-plan-requires
-write-plan-requires c =
+pub write_plan-requires : goal.write_plan-requires
+write_plan-requires c =
     let d = c.args.self.now in
     let o = c.frame-frame.ensures in
     record {
@@ -20,17 +20,17 @@ write-plan-requires c =
       room = states_within d.layout c.frame-frame.result o (length c.args.list.now) (omega (arith, c.states.ensures, c.if-list-states.false));
     }
 
-pub invariant-of-self : goal.invariant-of-self
-invariant-of-self c =
+pub invariant_of-self : goal.invariant_of-self
+invariant_of-self c =
     let d = c.args.self.now in
-    (keeps_at d.layout c.frame-frame.result c.frame-frame.ensures c.write-plan.new.book c.write-plan.ensures.kept, tt)
+    record { kept = keeps_at d.layout c.frame-frame.result c.frame-frame.ensures c.write_plan.new.book c.write_plan.ensures.kept }
 
 pub returns : goal.returns
 returns c =
     let d = c.args.self.now in
     let h : (desk_table d).states ≤ length c.args.list.now = omega (arith, c.states.ensures, c.if-list-states.false) in
     record {
-      list = some_plan d.layout c.frame-frame.result c.frame-frame.ensures (desk_book d) c.args.list.now c.write-plan.new.list h c.write-plan.ensures.list;
+      list = some_plan d.layout c.frame-frame.result c.frame-frame.ensures (desk_book d) c.args.list.now c.write_plan.new.list h c.write_plan.ensures.list;
       table = refl;
-      book = c.write-plan.ensures.book;
+      book = c.write_plan.ensures.book;
     }

@@ -6,7 +6,7 @@ use Rattle.rules.specs.Setting.{setting_of}
 use Rattle.rules.specs.Promises.{lower_at, upper_at}
 use Rattle.rules.proofs.Nodes.{node_number}
 use Rattle.book.specs.Frames.{table_of}
-use Rattle.book.proofs.Rows.{bounds_small}
+use Rattle.book.proofs.Refines.{bounds_small}
 use Rattle.book.specs.Desks.{desk_table, desk_book, SmallBound}
 use Rattle.book.proofs.Desks.{no_bounds, kept_at, state_in, some_bounds}
 use Rattle.book.proofs.desk.Desk.quote.Goals as goal

@@ -19,8 +19,8 @@ returns-then-component-components c =
       book = no_change (desk_table d) (desk_book d) c.args.component c.args.steps c.args.width h;
     }
 
-pub overflow-cast-component : goal.overflow-cast-component
-overflow-cast-component c =
+pub overflow_cast-component : goal.overflow_cast-component
+overflow_cast-component c =
     let f = c.frame-frame.result in
     let T : Table = table_of f in
     let L : Lawful T = c.frame-frame.ensures.framed.lawful in
@@ -29,8 +29,8 @@ overflow-cast-component c =
     let h : c.args.component < 2 ^ 32 = omega (arith, w.0, w.1, L.states.1, n) in
     search (rules, h)
 
-pub refine-steps-requires : goal.refine-steps-requires
-refine-steps-requires c =
+pub refine_steps-requires : goal.refine_steps-requires
+refine_steps-requires c =
     let d = c.args.self.now in
     let o = c.frame-frame.ensures in
     record {
@@ -39,10 +39,10 @@ refine-steps-requires c =
       component = component-in d.layout c.frame-frame.result o c.args.component (omega (arith, c.components.ensures, c.if-component-components.false));
     }
 
-pub invariant-of-self : goal.invariant-of-self
-invariant-of-self c =
+pub invariant_of-self : goal.invariant_of-self
+invariant_of-self c =
     let d = c.args.self.now in
-    (keeps_at d.layout c.frame-frame.result c.frame-frame.ensures c.refine-steps.new.book c.refine-steps.ensures.kept, tt)
+    record { kept = keeps_at d.layout c.frame-frame.result c.frame-frame.ensures c.refine_steps.new.book c.refine_steps.ensures.kept }
 
 pub returns : goal.returns
 returns c =
@@ -50,7 +50,7 @@ returns c =
     let o = c.frame-frame.ensures in
     let h : c.args.component < components (desk_table d) = omega (arith, c.components.ensures, c.if-component-components.false) in
     record {
-      made = some_steps d.layout c.frame-frame.result o (desk_book d) c.args.component c.args.steps c.args.width c.refine-steps.result h c.refine-steps.ensures.made;
+      made = some_steps d.layout c.frame-frame.result o (desk_book d) c.args.component c.args.steps c.args.width c.refine_steps.result h c.refine_steps.ensures.made;
       table = refl;
-      book = some_change d.layout c.frame-frame.result o (desk_book d) (book_of c.refine-steps.new.book) c.args.component c.args.steps c.args.width h c.refine-steps.ensures.book;
+      book = some_change d.layout c.frame-frame.result o (desk_book d) (book_of c.refine_steps.new.book) c.args.component c.args.steps c.args.width h c.refine_steps.ensures.book;
     }

@@ -9,13 +9,13 @@ use Rattle.book.specs.Layouts.{LaidOut}
 use Rattle.book.specs.declared.layout.Layout.{Layout}
 use Rattle.book.proofs.layout.Layout.of.Goals as goal
 
-pub returns-in-err-layout : goal.returns-in-err-layout
-returns-in-err-layout g c =
+pub returns-in_err-layout : goal.returns-in_err-layout
+returns-in_err-layout g c =
     let T : Table = g.S.Source.table c.args.source.now in
-    let p = err_from_is_err_and c.from-residual-in-err-layout.result c.from-residual-in-err-layout.ensures.1 in
-    let e : c.from-residual-in-err-layout.result ≡ Err Memory = p.1 ∙ ap Err (p.2 ∙ c.in-err-layout.ensures) in
+    let p = err_from_is_err_and c.from_residual-in_err-layout.result c.from_residual-in_err-layout.ensures.1 in
+    let e : c.from_residual-in_err-layout.result ≡ Err Memory = p.1 ∙ ap Err (p.2 ∙ c.in_err-layout.ensures) in
     subst (λ (r : Result Layout LoadFault). MatchResult r (LaidOut T) (RefusedLoad T)) (sym e)
-    ((walk_law T).lawful.1 c.in-ok-parts.ensures.lawful)
+    ((walk_law T).lawful.1 c.in_ok-parts.ensures.lawful)
 
 pub returns : goal.returns
-returns g c = record { lawful = c.in-ok-parts.ensures.lawful; same = c.in-ok-layout.ensures }
+returns g c = record { lawful = c.in_ok-parts.ensures.lawful; same = c.in_ok-layout.ensures }
