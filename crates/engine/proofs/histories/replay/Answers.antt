@@ -16,8 +16,8 @@ loop-call-init g c =
     let S = state_of c.open-engine.result in
     ([], tt, subst (λ (l : List CodeAnswer). Replayed T [] S (map answer_of l)) (sym c.new-answers.ensures.items) (none_yet T S c.open-engine.ensures.opens))
 
-pub returns-in-err-make : goal.returns-in-err-make
-returns-in-err-make g c = failed _ c.from-residual.result c.from-residual.ensures.0
+pub returns-in_err-make : goal.returns-in_err-make
+returns-in_err-make g c = failed _ c.from_residual.result c.from_residual.ensures.0
 
 pub loop-call-preserved : goal.loop-call-preserved
 loop-call-preserved g c =
@@ -27,10 +27,10 @@ loop-call-preserved g c =
     let i : ℕ = c.loop-call.call-index in
     let x : CodeCall g.row.S.Denot = c.call-item.result in
     let inv = c.loop-call.invariant in
-    let m = c.in-ok-make.ensures in
+    let m = c.in_ok-make.ensures in
     let before : List CodeAnswer = vec_items c.loop-call.answers in
-    let a : CodeAnswer = c.in-ok-make.field-0 in
-    let items : vec_items c.push.new.self ≡ before ++ (a ∷ []) = c.in-ok-push.ensures.items in
+    let a : CodeAnswer = c.in_ok-make.field-0 in
+    let items : vec_items c.push.new.self ≡ before ++ (a ∷ []) = c.in_ok-push.ensures.items in
     let d : Call = call_of table x m.0 in
     let more : take i calls ++ (x ∷ []) ≡ take (i + 1) calls =
     ap (λ (y : CodeCall g.row.S.Denot). take i calls ++ (y ∷ [])) c.call-item.is ∙ sym (take_more calls i x (omega (arith, c.loop-call-test.true))) in

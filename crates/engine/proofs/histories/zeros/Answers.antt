@@ -4,4 +4,4 @@ use Rattle.engine.proofs.histories.zeros.Goals as goal
 
 pub loop-place-preserved : goal.loop-place-preserved
 loop-place-preserved c =
-    c.in-ok-push.ensures.items ∙ ap (λ (l : List ℕ). l ++ (0 ∷ [])) c.loop-place.invariant ∙ replicate_more c.loop-place.place 0
+    c.in_ok-push.ensures.items ∙ ap (λ (l : List ℕ). l ++ (0 ∷ [])) c.loop-place.invariant ∙ replicate_more c.loop-place.place 0

@@ -7,14 +7,14 @@ use Rattle.engine.proofs.Refusals.{idle_refuses, not_idle}
 use Rattle.engine.proofs.Accepted.{close_answer, close_next}
 use Rattle.engine.proofs.engine.Engine.close.Goals as goal
 
-pub returns-in-default : goal.returns-in-default
-returns-in-default c =
-    let r = idle_refuses (state_of c.args.self.now) c.in-default.field-0 c.in-default.ensures close tt in
+pub returns-in_default : goal.returns-in_default
+returns-in_default c =
+    let r = idle_refuses (state_of c.args.self.now) c.in_default.field-0 c.in_default.ensures close tt in
     record { answer = r.answer; holds = r.holds }
 
-pub returns-in-default-held : goal.returns-in-default-held
-returns-in-default-held c =
-    not_idle c.in-Ok.field-0-0 c.in-Ok.field-0-1 (state_of c.args.self.now) c.in-default-held.field-0 c.in-Ok.ensures (ap held_state c.in-default-held.is)
+pub returns-in_default-held : goal.returns-in_default-held
+returns-in_default-held c =
+    not_idle c.in-Ok.field-0-0 c.in-Ok.field-0-1 (state_of c.args.self.now) c.in_default-held.field-0 c.in-Ok.ensures (ap held_state c.in_default-held.is)
 
 pub returns : goal.returns
 returns c =

@@ -7,10 +7,10 @@ use Rattle.engine.proofs.Refusals.{idle_refuses, room_refuses, not_idle, states_
 use Rattle.engine.proofs.Accepted.{plan-answer, plan_next}
 use Rattle.engine.proofs.engine.Engine.plan.Goals as goal
 
-pub returns-in-default : goal.returns-in-default
-returns-in-default c =
+pub returns-in_default : goal.returns-in_default
+returns-in_default c =
     let list = c.args.list.now in
-    let r = idle_refuses (state_of c.args.self.now) c.in-default.field-0 c.in-default.ensures (plan list) tt in
+    let r = idle_refuses (state_of c.args.self.now) c.in_default.field-0 c.in_default.ensures (plan list) tt in
     record { answer = r.answer; list = ap (λ (a : Answer). list_after a list) r.answer; holds = r.holds }
 
 pub returns-then-list-states : goal.returns-then-list-states
@@ -19,9 +19,9 @@ returns-then-list-states c =
     let r = room_refuses c.in-Ok.states c.in-Ok.field-0-1 (state_of c.args.self.now) c.in-Ok.ensures list c.if-list-states.true in
     record { answer = r.answer; list = ap (λ (a : Answer). list_after a list) r.answer; holds = r.holds }
 
-pub returns-in-default-held : goal.returns-in-default-held
-returns-in-default-held c =
-    not_idle c.in-Ok.states c.in-Ok.field-0-1 (state_of c.args.self.now) c.in-default-held.field-0 c.in-Ok.ensures (ap held_state c.in-default-held.is)
+pub returns-in_default-held : goal.returns-in_default-held
+returns-in_default-held c =
+    not_idle c.in-Ok.states c.in-Ok.field-0-1 (state_of c.args.self.now) c.in_default-held.field-0 c.in-Ok.ensures (ap held_state c.in_default-held.is)
 
 pub returns : goal.returns
 returns c =

@@ -9,17 +9,17 @@ use Rattle.engine.proofs.Refusals.{idle_refuses, state_refuses, not_idle, states
 use Rattle.engine.proofs.Accepted.{quote-answer}
 use Rattle.engine.proofs.engine.Engine.quote.Goals as goal
 
-pub returns-in-default : goal.returns-in-default
-returns-in-default c =
-    (idle_refuses (state_of c.args.self.now) c.in-default.field-0 c.in-default.ensures (quote c.args.state c.args.width) tt).answer
+pub returns-in_default : goal.returns-in_default
+returns-in_default c =
+    (idle_refuses (state_of c.args.self.now) c.in_default.field-0 c.in_default.ensures (quote c.args.state c.args.width) tt).answer
 
 pub returns-then-state-states : goal.returns-then-state-states
 returns-then-state-states c =
     (state_refuses c.in-Ok.states c.in-Ok.field-0-1 (state_of c.args.self.now) c.in-Ok.ensures c.args.state c.args.width c.if-state-states.true).answer
 
-pub returns-in-default-held : goal.returns-in-default-held
-returns-in-default-held c =
-    not_idle c.in-Ok.states c.in-Ok.field-0-1 (state_of c.args.self.now) c.in-default-held.field-0 c.in-Ok.ensures (ap held_state c.in-default-held.is)
+pub returns-in_default-held : goal.returns-in_default-held
+returns-in_default-held c =
+    not_idle c.in-Ok.states c.in-Ok.field-0-1 (state_of c.args.self.now) c.in_default-held.field-0 c.in-Ok.ensures (ap held_state c.in_default-held.is)
 
 pub returns : goal.returns
 returns c =

@@ -9,9 +9,9 @@ use Rattle.engine.proofs.Refusals.{idle_refuses, component_refuses, steps_refuse
 use Rattle.engine.proofs.Accepted.{refine-answer, refine_next}
 use Rattle.engine.proofs.engine.Engine.refine.Goals as goal
 
-pub returns-in-default : goal.returns-in-default
-returns-in-default c =
-    let r = idle_refuses (state_of c.args.self.now) c.in-default.field-0 c.in-default.ensures (refines c.args.component c.args.steps c.args.width) tt in
+pub returns-in_default : goal.returns-in_default
+returns-in_default c =
+    let r = idle_refuses (state_of c.args.self.now) c.in_default.field-0 c.in_default.ensures (refines c.args.component c.args.steps c.args.width) tt in
     record { answer = r.answer; holds = r.holds }
 
 pub returns-then-component-components : goal.returns-then-component-components
@@ -26,9 +26,9 @@ returns-then-not-counts c =
     c.args.component c.args.steps c.args.width c.if-component-components.false (sym c.if-not-counts.ensures) in
     record { answer = r.answer; holds = r.holds }
 
-pub returns-in-default-held : goal.returns-in-default-held
-returns-in-default-held c =
-    not_idle c.in-Ok.field-0-0 c.in-Ok.components (state_of c.args.self.now) c.in-default-held.field-0 c.in-Ok.ensures (ap held_state c.in-default-held.is)
+pub returns-in_default-held : goal.returns-in_default-held
+returns-in_default-held c =
+    not_idle c.in-Ok.field-0-0 c.in-Ok.components (state_of c.args.self.now) c.in_default-held.field-0 c.in-Ok.ensures (ap held_state c.in_default-held.is)
 
 pub returns : goal.returns
 returns c =
