@@ -4,10 +4,10 @@
     tools/planted/try.py COPY [N...]     all bugs of bugs.py, or those with these numbers
     tools/planted/try.py COPY NAME...    those of the named crates
 
-COPY is made from this repository if it is not there (with target/, so that what is proved is not proved again).
-Each bug is one replacement in one file of one crate. `rt dev` checks that crate alone: what a crate promises to the
+COPY is made from this repository if it is not there (with the folders out/, so that what is proved is not proved again).
+Each bug is one replacement in one file of one crate. `rt check` checks that crate alone: what a crate promises to the
 crates above it stays the same. Prints 'refused' with the first error, 'PASSED', or that the bug is no Rattle.
-What a check wrote is in COPY/target/planted/. RT in the environment names another rt.
+What a check wrote is in COPY/out/planted/. RT in the environment names another rt.
 Exit status: 0 if every bug tried was refused.
 """
 import os
@@ -51,7 +51,7 @@ def attempt(copy, number, bug, logs):
     before = planted(path, old, new)
     start = time.time()
     try:
-        run = subprocess.run([RT, "dev", crate, "--short-goals"], cwd=copy, capture_output=True, text=True)
+        run = subprocess.run([RT, "check"], cwd=copy / "crates" / crate, capture_output=True, text=True)
     finally:
         path.write_text(before)
     output = run.stdout + run.stderr
@@ -71,7 +71,7 @@ def main():
     copy = pathlib.Path(sys.argv[1]).resolve()
     if not copy.exists():
         shutil.copytree(HERE, copy, symlinks=True)
-    logs = copy / "target" / "planted"
+    logs = copy / "out" / "planted"
     logs.mkdir(parents=True, exist_ok=True)
     asked = sys.argv[2:]
     tried = [(n, b) for n, b in enumerate(BUGS, 1) if not asked or str(n) in asked or b[0] in asked]
