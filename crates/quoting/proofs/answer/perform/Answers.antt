@@ -11,7 +11,7 @@ pub returns-in-Refine : goal.returns-in-Refine
 returns-in-Refine c =
     let S = state_of c.args.engine.now in
     record {
-      bytes = said string_bytes c.refine-reply.result c.args.line S c.args.command _ _ c.in-Refine.is c.refine.ensures.answer c.refine-reply.ensures;
+      bytes = said string_bytes c.refine_reply.result c.args.line S c.args.command _ _ c.in-Refine.is c.refine.ensures.answer c.refine_reply.ensures;
       engine = left S _ c.args.command _ c.in-Refine.is c.refine.ensures.holds;
     }
 
@@ -19,18 +19,18 @@ pub returns-in-Sweep : goal.returns-in-Sweep
 returns-in-Sweep c =
     let S = state_of c.args.engine.now in
     record {
-      bytes = said string_bytes c.sweep-reply.result c.args.line S c.args.command _ _ c.in-Sweep.is c.sweep.ensures.answer c.sweep-reply.ensures;
+      bytes = said string_bytes c.sweep_reply.result c.args.line S c.args.command _ _ c.in-Sweep.is c.sweep.ensures.answer c.sweep_reply.ensures;
       engine = left S _ c.args.command _ c.in-Sweep.is c.sweep.ensures.holds;
     }
 
-pub quote-reply-requires : goal.quote-reply-requires
-quote-reply-requires c = marked (state_of c.args.engine.now) _ _ c.quote.result c.quote.ensures
+pub quote_reply-requires : goal.quote_reply-requires
+quote_reply-requires c = marked (state_of c.args.engine.now) _ _ c.quote.result c.quote.ensures
 
 pub returns-in-Quote : goal.returns-in-Quote
 returns-in-Quote c =
     let S = state_of c.args.engine.now in
     record {
-      bytes = said string_bytes c.quote-reply.result c.args.line S c.args.command _ _ c.in-Quote.is c.quote.ensures c.quote-reply.ensures;
+      bytes = said string_bytes c.quote_reply.result c.args.line S c.args.command _ _ c.in-Quote.is c.quote.ensures c.quote_reply.ensures;
       engine = left S _ c.args.command _ c.in-Quote.is (quoting S _ _);
     }
 
@@ -46,6 +46,6 @@ pub returns-in-Close : goal.returns-in-Close
 returns-in-Close c =
     let S = state_of c.args.engine.now in
     record {
-      bytes = said string_bytes c.close-reply.result c.args.line S c.args.command _ _ c.in-Close.is c.close.ensures.answer c.close-reply.ensures;
+      bytes = said string_bytes c.close_reply.result c.args.line S c.args.command _ _ c.in-Close.is c.close.ensures.answer c.close_reply.ensures;
       engine = left S _ c.args.command _ c.in-Close.is c.close.ensures.holds;
     }

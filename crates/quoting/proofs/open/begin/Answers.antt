@@ -3,13 +3,13 @@ use Rattle.engine.specs.States.{state_of}
 use Rattle.quoting.proofs.Opening.{first_line, ends, goes}
 use Rattle.quoting.proofs.open.begin.Goals as goal
 
-pub returns-then-is-err : goal.returns-then-is-err
-returns-then-is-err c =
+pub returns-then-is_err : goal.returns-then-is_err
+returns-then-is_err c =
     let S = state_of c.args.engine in
     let h = c.standing-standing.ensures in
     record {
-      line = first_line S _ _ h (c.in-ok-line.ensures 0);
-      engine = ends S c.standing-standing.result h (sym c.if-is-err.ensures.value);
+      line = first_line S _ _ h (c.in_ok-line.ensures 0);
+      engine = ends S c.standing-standing.result h (sym c.if-is_err.ensures.value);
       count = tt;
     }
 
@@ -18,7 +18,7 @@ returns c =
     let S = state_of c.args.engine in
     let h = c.standing-standing.ensures in
     record {
-      line = first_line S _ _ h (c.in-ok-line.ensures 0);
-      engine = goes S c.standing-standing.result h (sym c.if-is-err.ensures.value);
+      line = first_line S _ _ h (c.in_ok-line.ensures 0);
+      engine = goes S c.standing-standing.result h (sym c.if-is_err.ensures.value);
       count = refl;
     }

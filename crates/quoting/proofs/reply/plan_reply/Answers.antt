@@ -21,4 +21,4 @@ returns-in-Ok c =
     let front = within c.args.states c.min.result list c.min.ensures in
     let line = ap (λ (xs : List ℕ). answer_line 80 (map pos xs)) front
     ∙ ap (λ (r : Result (Unit {0}) Refusal). written c.args.line 80 c.args.states (planned_answer r list)) (sym c.in-Ok.is) in
-    subst (λ (bytes : List ℕ). IfOk c.plan-line.result (λ t. string_bytes t ≡ bytes)) line c.plan-line.ensures.bytes
+    subst (λ (bytes : List ℕ). IfOk c.plan_line.result (λ t. string_bytes t ≡ bytes)) line c.plan_line.ensures.bytes

@@ -7,7 +7,7 @@ use Rattle.quoting.proofs.session.Console.answer.Goals as goal
 pub returns-in-Some : goal.returns-in-Some
 returns-in-Some c =
     let S = state_of c.args.self.now.engine in
-    let n : c.saturating-add-self.result ≡ counted c.args.self.now.lines = omega arith in
+    let n : c.saturating_add-self.result ≡ counted c.args.self.now.lines = omega arith in
     let o = c.in-Some.ensures.reads in
     record {
       bytes = replied string_bytes c.perform.result _ _ S _ _ n o c.perform.ensures.bytes;
@@ -18,7 +18,7 @@ returns-in-Some c =
 pub returns-in-None : goal.returns-in-None
 returns-in-None c =
     let S = state_of c.args.self.now.engine in
-    let n : c.saturating-add-self.result ≡ counted c.args.self.now.lines = omega arith in
+    let n : c.saturating_add-self.result ≡ counted c.args.self.now.lines = omega arith in
     let o = c.in-None.ensures.reads in
     record {
       bytes = replied string_bytes c.unread.result _ _ S _ _ n o c.unread.ensures;

@@ -10,12 +10,12 @@ returns-in-Ok c =
     opened_made string_bytes c.begin.result file e.memory _ (begun file e.memory _ _ c.in-Ok.ensures e.holds)
     c.begin.ensures.line c.begin.ensures.engine c.begin.ensures.count
 
-pub returns-in-ok-refused-file : goal.returns-in-ok-refused-file
-returns-in-ok-refused-file c =
+pub returns-in_ok-refused_file-in-Err : goal.returns-in_ok-refused_file-in-Err
+returns-in_ok-refused_file-in-Err c =
     let e = unbegun c.args.file.now true c.in-Err.fault c.in-Err.ensures in
     record {
       memory = true;
-      line = c.in-ok-refused-file.ensures ∙ ap (λ (x : List ℕ × Option State). x.0) e;
+      line = c.in_ok-refused_file-in-Err.ensures ∙ ap (λ (x : List ℕ × Option State). x.0) e;
       engine = ap (λ (x : List ℕ × Option State). x.1) e;
       count = tt;
     }
