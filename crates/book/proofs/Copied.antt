@@ -34,8 +34,8 @@ choice_extends {row = row} e h = record {
   at = λ b l. let m = h.within in extends_at (0, 0) (row.first + b) e (omega arith) ∙ h.at b l;
 }
 
-choices_extend : {T : Table} {s k first : ℕ} {oldC new_c : List ChoiceRow} {oldB new_b : List (ℕ × ℕ)}
-    → Extends oldC new_c → Extends oldB new_b → HoldsChoices T s k first oldC oldB → HoldsChoices T s k first new_c new_b
+choices_extend : {T : Table} {s k first : ℕ} {old_c new_c : List ChoiceRow} {old_b new_b : List (ℕ × ℕ)}
+    → Extends old_c new_c → Extends old_b new_b → HoldsChoices T s k first old_c old_b → HoldsChoices T s k first new_c new_b
 choices_extend {T} {s} {k} {first} {new_b = new_b} e f h = record {
   within = let l = extends_long e in let m = h.within in omega arith;
   at = λ c l.
@@ -43,11 +43,11 @@ choices_extend {T} {s} {k} {first} {new_b = new_b} e f h = record {
       subst (λ (row : ChoiceRow). HoldsChoice T s c row new_b) (sym (extends_at no_choice (first + c) e (omega arith))) (choice_extends f (h.at c l));
 }
 
-module _ (T : Table) (s k : ℕ) (row : ChoiceRow) (oldC new_c nextC : List ChoiceRow) (oldB new_b nextB : List (ℕ × ℕ)) where
-  pub choices_more : ChoicesCopied T s k oldC new_c oldB new_b → T.branches s k ≤ 8
+module _ (T : Table) (s k : ℕ) (row : ChoiceRow) (old_c new_c nextC : List ChoiceRow) (old_b new_b nextB : List (ℕ × ℕ)) where
+  pub choices_more : ChoicesCopied T s k old_c new_c old_b new_b → T.branches s k ≤ 8
       → nextB ≡ new_b ++ map (T.branch s k) (range_with_len 0 (T.branches s k)) → nextC ≡ new_c ++ (row ∷ [])
       → row.reward ≡ T.reward s k → row.first ≡ length new_b → row.count ≡ T.branches s k
-      → ChoicesCopied T s (k + 1) oldC nextC oldB nextB
+      → ChoicesCopied T s (k + 1) old_c nextC old_b nextB
   choices_more p few eB eC er ef ec = record {
     choices = extends_more p.choices grow_c;
     branches = extends_more p.branches grow_b;
@@ -56,7 +56,7 @@ module _ (T : Table) (s k : ℕ) (row : ChoiceRow) (oldC new_c nextC : List Choi
     held = record {
       within = let l = long_c in let m = p.size in omega arith;
       at = λ c h. ⊎_elim
-          (λ (q : c ≡ k). subst (λ x. HoldsChoice T s x (get_or nextC (length oldC + x) no_choice) nextB) (sym q) new_row)
+          (λ (q : c ≡ k). subst (λ x. HoldsChoice T s x (get_or nextC (length old_c + x) no_choice) nextB) (sym q) new_row)
           (λ (q : c ≡ k → ⊥). (choices_extend grow_c grow_b p.held).at c (omega arith))
           (cases_eq c k);
     };
@@ -76,12 +76,12 @@ module _ (T : Table) (s k : ℕ) (row : ChoiceRow) (oldC new_c nextC : List Choi
           ap length eB ∙ length-append new_b (map (T.branch s k) (range_with_len 0 (T.branches s k)))
           ∙ ap (λ (n : ℕ). length new_b + n) (length-map-range_with_len (T.branch s k) 0 (T.branches s k))
 
-      here : get_or nextC (length oldC + k) no_choice ≡ row
+      here : get_or nextC (length old_c + k) no_choice ≡ row
       here =
-          let q : length oldC + k ≡ length new_c + 0 = let m = p.size in omega arith in
+          let q : length old_c + k ≡ length new_c + 0 = let m = p.size in omega arith in
           ap₂ (λ (xs : List ChoiceRow) (i : ℕ). get_or xs i no_choice) eC q ∙ get_or-append-add new_c (row ∷ []) 0 no_choice
 
-      new_row : HoldsChoice T s k (get_or nextC (length oldC + k) no_choice) nextB
+      new_row : HoldsChoice T s k (get_or nextC (length old_c + k) no_choice) nextB
       new_row = subst (λ (r : ChoiceRow). HoldsChoice T s k r nextB) (sym here) (record {
         reward = er;
         count = ec;
@@ -92,11 +92,11 @@ module _ (T : Table) (s k : ℕ) (row : ChoiceRow) (oldC new_c nextC : List Choi
             ∙ get_or-map-range_with_len (T.branch s k) 0 (T.branches s k) b b (0, 0) h (omega arith);
       })
 
-module _ (T : Table) (A : ℕ → ℕ → Bool) (k : ℕ) (row : StateRow) (states next : List StateRow) (oldC new_c : List ChoiceRow)
-    (oldB new_b : List (ℕ × ℕ)) (oldF newF : List Bool) where
-  pub states_more : StatesCopied T A k states oldC oldB oldF → ChoicesCopied T k (T.choices k) oldC new_c oldB new_b → T.choices k ≤ 16
+module _ (T : Table) (A : ℕ → ℕ → Bool) (k : ℕ) (row : StateRow) (states next : List StateRow) (old_c new_c : List ChoiceRow)
+    (old_b new_b : List (ℕ × ℕ)) (oldF newF : List Bool) where
+  pub states_more : StatesCopied T A k states old_c old_b oldF → ChoicesCopied T k (T.choices k) old_c new_c old_b new_b → T.choices k ≤ 16
       → newF ≡ oldF ++ map (A k) (range_with_len 0 (T.choices k))
-      → next ≡ states ++ (row ∷ []) → row.first ≡ length oldC → row.count ≡ T.choices k
+      → next ≡ states ++ (row ∷ []) → row.first ≡ length old_c → row.count ≡ T.choices k
       → StatesCopied T A (k + 1) next new_c new_b newF
   states_more p q few eF e ef ec = record {
     size = let l = long in let m = p.size in omega arith;

@@ -19,12 +19,12 @@ pub record HoldsChoices (T : Table) (s k first : ℕ) (choices : List ChoiceRow)
   pub at : (c : ℕ) → c < k → HoldsChoice T s c (slice_index_or choices (first + c) no_choice) branches
 
 -- the choices of a state have been added at the ends
-pub record ChoicesCopied (T : Table) (s k : ℕ) (oldC new_c : List ChoiceRow) (oldB new_b : List (ℕ × ℕ)) : Type 0 where
-  pub choices : Extends oldC new_c
-  pub branches : Extends oldB new_b
-  pub size : length new_c ≡ length oldC + k
-  pub room : length new_b ≤ length oldB + 8 * k
-  pub held : HoldsChoices T s k (length oldC) new_c new_b
+pub record ChoicesCopied (T : Table) (s k : ℕ) (old_c new_c : List ChoiceRow) (old_b new_b : List (ℕ × ℕ)) : Type 0 where
+  pub choices : Extends old_c new_c
+  pub branches : Extends old_b new_b
+  pub size : length new_c ≡ length old_c + k
+  pub room : length new_b ≤ length old_b + 8 * k
+  pub held : HoldsChoices T s k (length old_c) new_c new_b
 
 -- the row is that of a state, and the flags of its choices are those of a set of choices
 pub record HoldsState (T : Table) (A : ℕ → ℕ → Bool) (s : ℕ) (row : StateRow) (choices : List ChoiceRow) (branches : List (ℕ × ℕ)) (flags : List Bool) : Type 0 where

@@ -1,5 +1,5 @@
 -- What the code's numbers of a table keep, as a test.
-use Rattle.std.specs.Prelude.{ℕ, Bool, true, ◌&&◌, ltb, map, length, ℤ, pos, vec_items, vec_len, ◌==◌, int_le, nat_le, nat_lt, slice_index_or}
+use Rattle.std.specs.Prelude.{ℕ, Bool, true, ◌&&◌, map, length, ℤ, pos, vec_items, vec_len, ◌==◌, int_le, nat_le, nat_lt, slice_index_or}
 use Rattle.table.specs.Table.{Table}
 use Rattle.components.specs.Below.{every, any}
 use Rattle.components.specs.Nodes.{nodes, node_of, components, states_of}
@@ -27,7 +27,7 @@ vector_fits M t =
 
 -- `RecordedFits`
 abbrev pub recorded_fits : Setting → (ℕ → ℕ) → Bool
-recorded_fits M r = every M.table.states (λ s. ltb (r s) (M.table.choices s))
+recorded_fits M r = every M.table.states (λ s. nat_lt (r s) (M.table.choices s))
 
 -- `Within`
 abbrev pub within : Setting → ℕ → (ℕ → ℤ) → Bool

@@ -1,6 +1,6 @@
 ghost use Rattle.std.specs.Prelude.{◌≡◌, MatchResult};
 ghost use Rattle.model.specs.Loads.{RefusedLoad};
-ghost use Rattle.components.specs.Nodes.{components as componentsOf};
+ghost use Rattle.components.specs.Nodes.{components as components_of};
 ghost use Rattle.rules.specs.Choosing.{at_z};
 ghost use Rattle.rules.specs.Setting.{setting_of};
 ghost use Rattle.rules.specs.Book.{start};
@@ -38,7 +38,7 @@ impl Desk {
 
     // The number of components.
     pub fn components(&self) -> u64
-        ensures { result ≡ componentsOf (desk_table self.now) }
+        ensures { result ≡ components_of (desk_table self.now) }
     {
         self.layout.frame().home.len() as u64
     }

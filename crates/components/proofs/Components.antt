@@ -3,9 +3,9 @@ use Rattle.std.proofs.Common.{◌≡◌, ℕ, ◌<◌, true, eqb, ◌↔◌, sym
 use Rattle.std.proofs.lemmas.Bool.{and_parts, and_from, eq-eqb, eqb-true}
 use Rattle.table.specs.Table.{Table}
 use Rattle.table.specs.Limits.{Lawful}
-use Rattle.components.specs.EndComponent.{States, Choices, Choice, Reaches, stays, Maximal}
+use Rattle.components.specs.EndComponent.{States, Choices, Choice, Reaches, Maximal}
 use Rattle.components.specs.Inside.{inside}
-use Rattle.components.specs.Nodes.{in_component, lowest, heads, components, component_of, states_of, choices_of}
+use Rattle.components.specs.Nodes.{in_component, heads, components, component_of, states_of, choices_of}
 use Rattle.components.specs.Law.{SameStates, SameChoices, Lowest, ComponentLaw, InsideLaw}
 use Rattle.components.proofs.Reach.{reach_sound, reach_all}
 use Rattle.components.proofs.Classes.{Class, class_closed, class_maximal, only_classes, choice-in}

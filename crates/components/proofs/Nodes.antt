@@ -5,7 +5,7 @@ use Rattle.table.specs.Table.{Table}
 use Rattle.table.specs.Limits.{Lawful}
 use Rattle.components.specs.EndComponent.{States, Choices, Reaches, EndComponent}
 use Rattle.components.specs.Inside.{inside}
-use Rattle.components.specs.Nodes.{in_component, lowest, is_lowest, nodes, node_of, components, component_of, states_of_node, states_of, lowest_of, component_at}
+use Rattle.components.specs.Nodes.{in_component, is_lowest, nodes, node_of, components, component_of, states_of_node, states_of, lowest_of, component_at}
 use Rattle.components.specs.Law.{SameStates, Lowest, Lone, Node, component, lone, NodeLaw}
 use Rattle.components.proofs.Below.{first_le, first_at}
 use Rattle.components.proofs.Reach.{reach_sound, reach_all}

@@ -3,7 +3,7 @@ use Rattle.std.proofs.Common.{◌≡◌, ℕ, ◌<◌, ◌≤◌, Bool, true, fa
 use Rattle.std.proofs.lemmas.Bool.{cases_Bool, cases_lt, and_parts, and_from, both_ways, eq-eqb, eqb-true}
 use Rattle.table.specs.Table.{Table}
 use Rattle.table.specs.Limits.{Lawful}
-use Rattle.components.specs.Below.{count, first}
+use Rattle.components.specs.Below.{count}
 use Rattle.components.specs.EndComponent.{States, stays}
 use Rattle.components.specs.Inside.{reach, inside}
 use Rattle.components.specs.Nodes.{in_component, lowest, is_lowest, heads, node_of, component_of, states_of_node, states_of}

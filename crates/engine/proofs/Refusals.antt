@@ -5,7 +5,7 @@ use Rattle.components.specs.Nodes.{components}
 use Rattle.rules.specs.Book.{Book}
 use Rattle.history.specs.Calls.{State, idle, loaded, Call, load, standing, refines, sweeping, close, quote, plan, counts, next}
 use Rattle.history.specs.Answers.{Answer, refused, stands, answer_loaded, answer_idle, answer}
-use Rattle.history.specs.Refusing.{Needy, Reason, needed, no_component, bad_steps, bad_sweeps, no-state, no_room}
+use Rattle.history.specs.Refusing.{Needy, Reason, needed, no_component, bad_steps, bad_sweeps, no_state, no_room}
 use Rattle.history.specs.declared.refusal.Refusal.{Refusal}
 use Rattle.history.specs.declared.refusal.Refusal.TheVariants as refusal
 use Rattle.history.proofs.Refusing.{refusal_law, miscounted}
@@ -63,7 +63,7 @@ module _ (n k : ℕ) where
   state_refuses (loaded T B) h s width l =
       let e : n ≡ T.states = cc in
       let p : T.states ≤ s = omega (arith, e, l) in
-      refuses (loaded T B) (quote s width) refusal.State (no-state p)
+      refuses (loaded T B) (quote s width) refusal.State (no_state p)
 
   pub room_refuses : (S : State) → stands n k ≡ answer S standing → (list : List ℕ) → length list < n → Refuses S (plan list) refusal.Room
   unfolding answer answer_loaded answer_idle

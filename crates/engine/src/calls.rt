@@ -1,7 +1,7 @@
 ghost use Rattle.std.specs.Prelude.{◌≡◌, pos, ◌-ℤ◌, if◌then◌else◌, int_le};
 ghost use Rattle.book.specs.Desks.{SmallBound};
-ghost use Rattle.history.specs.Calls.{next, counts as countsTest};
-ghost use Rattle.history.specs.Calls.Call.{load as loadCall, standing as standingCall, refines, sweeping, close as closeCall, quote as quoteCall, plan as planCall};
+ghost use Rattle.history.specs.Calls.{next, counts as counts_test};
+ghost use Rattle.history.specs.Calls.Call.{load as load_call, standing as standing_call, refines, sweeping, close as close_call, quote as quote_call, plan as plan_call};
 ghost use Rattle.history.specs.Answers.{answer};
 ghost use Rattle.history.specs.Refusing.{RefusalLaw};
 ghost use Rattle.history.specs.Worked.{Worked};
@@ -16,7 +16,7 @@ use table::Source;
 
 // 1 to 1,000
 fn counts(count: u64) -> bool
-    ensures { result ≡ countsTest count }
+    ensures { result ≡ counts_test count }
 {
     1 <= count && count <= 1000
 }
@@ -65,7 +65,7 @@ impl Engine {
 
     // The number of states and of components; if idle, the refusal of the open.
     pub fn standing(&self) -> Result<(u64, u64), Refusal>
-        ensures { stands_answer result ≡ answer (state_of self.now) standingCall }
+        ensures { stands_answer result ≡ answer (state_of self.now) standing_call }
     {
         match &self.held {
             Held::Idle(refusal) => Err(*refusal),
@@ -119,8 +119,8 @@ impl Engine {
 
     // Back to the start of the table that is loaded.
     pub fn close(&mut self) -> Result<(), Refusal>
-        ensures answer { done_answer result ≡ answer (state_of self.old) closeCall }
-        ensures holds { state_of self.new ≡ next (state_of self.old) closeCall }
+        ensures answer { done_answer result ≡ answer (state_of self.old) close_call }
+        ensures holds { state_of self.new ≡ next (state_of self.old) close_call }
     {
         let Ok((_, _)) = self.standing() else {
             return Err(Refusal::Idle);
@@ -134,7 +134,7 @@ impl Engine {
 
     // The lower and the upper bound of a state, and 1 exactly if they are at most the width apart, else 0.
     pub fn quote(&self, state: u64, width: u64) -> Result<(i64, i64, u64), Refusal>
-        ensures { quoted_answer result ≡ answer (state_of self.now) (quoteCall state width) }
+        ensures { quoted_answer result ≡ answer (state_of self.now) (quote_call state width) }
     {
         let Ok((states, _)) = self.standing() else {
             return Err(Refusal::Idle);
@@ -151,9 +151,9 @@ impl Engine {
 
     // Writes the choice of each state to the front of the list and leaves the rest.
     pub fn plan(&mut self, list: &mut [u32]) -> Result<(), Refusal>
-        ensures answer { planned_answer result list.new ≡ answer (state_of self.old) (planCall list.old) }
-        ensures list { list.new ≡ list_after (answer (state_of self.old) (planCall list.old)) list.old }
-        ensures holds { state_of self.new ≡ next (state_of self.old) (planCall list.old) }
+        ensures answer { planned_answer result list.new ≡ answer (state_of self.old) (plan_call list.old) }
+        ensures list { list.new ≡ list_after (answer (state_of self.old) (plan_call list.old)) list.old }
+        ensures holds { state_of self.new ≡ next (state_of self.old) (plan_call list.old) }
     {
         let Ok((states, _)) = self.standing() else {
             return Err(Refusal::Idle);

@@ -11,7 +11,7 @@ use Rattle.rules.specs.Refine.{refine}
 use Rattle.rules.specs.Sweep.{sweeps}
 use Rattle.history.specs.Calls.{State, idle, loaded, Call, load, standing, refines, sweeping, close, quote, plan, counts, fresh, opened, after_load, after_call, after_idle, next, run}
 use Rattle.history.specs.Answers.{Answer, refused, done, stands, swept, load_answer, refine_answer, quote_answer, plan_answer, answer_loaded, answer_idle, answer, answers}
-use Rattle.history.specs.Refusing.{Needy, Miscounted, Reason, broken, starved, unopened, needed, no_component, bad_steps, bad_sweeps, no-state, no_room, AsOpened, RefusalLaw}
+use Rattle.history.specs.Refusing.{Needy, Miscounted, Reason, broken, starved, unopened, needed, no_component, bad_steps, bad_sweeps, no_state, no_room, AsOpened, RefusalLaw}
 use Rattle.history.specs.declared.refusal.Refusal.{Refusal}
 use Rattle.history.specs.declared.refusal.Refusal.TheVariants as refusal
 
@@ -130,7 +130,7 @@ module _ (T : Table) (B : Book) where
   loaded_reason (quote s width) e h =
       elim (cases_Bool (ltb s T.states)) [
         | inl a ↦ quote_accepted s width e (sym (cond-true (ltb s T.states) (quote_answer T B s width) (refused refusal.State) a) ∙ h)
-        | inr a ↦ moved refusal.State e (no-state (ltb-false s T.states a))
+        | inr a ↦ moved refusal.State e (no_state (ltb-false s T.states a))
             (sym (cond-false (ltb s T.states) (quote_answer T B s width) (refused refusal.State) a) ∙ h)
       ]
   loaded_reason (plan list) e h =
@@ -184,7 +184,7 @@ refused_by S c e (bad_steps {T} {B} {k} {n} {width} l h) =
     cond-true (ltb k (components T)) (cond (counts n) (refine_answer T B k n width) (refused refusal.Count)) (refused refusal.Component) (lt-ltb k (components T) l)
     ∙ cond-false (counts n) (refine_answer T B k n width) (refused refusal.Count) (not_counts n h)
 refused_by S c e (bad_sweeps {T} {B} {n} h) = cond-false (counts n) (swept (sweeps (setting_of T) n B).made) (refused refusal.Count) (not_counts n h)
-refused_by S c e (no-state {T} {B} {s} {width} h) = cond-false (ltb s T.states) (quote_answer T B s width) (refused refusal.State) (le-ltb s T.states h)
+refused_by S c e (no_state {T} {B} {s} {width} h) = cond-false (ltb s T.states) (quote_answer T B s width) (refused refusal.State) (le-ltb s T.states h)
 refused_by S c e (no_room {T} {B} {list} h) =
     cond-false (leb T.states (length list)) (plan_answer T B list) (refused refusal.Room) (lt-leb T.states (length list) h)
 

@@ -37,7 +37,7 @@ pub data Reason : State → Call → Refusal → Type 0 where
   no_component : {T : Table} {B : Book} {k n width : ℕ} → components T ≤ k → Reason (loaded T B) (refines k n width) refusal.Component
   bad_steps : {T : Table} {B : Book} {k n width : ℕ} → k < components T → Miscounted n → Reason (loaded T B) (refines k n width) refusal.Count
   bad_sweeps : {T : Table} {B : Book} {n : ℕ} → Miscounted n → Reason (loaded T B) (sweeping n) refusal.Count
-  no-state : {T : Table} {B : Book} {s width : ℕ} → T.states ≤ s → Reason (loaded T B) (quote s width) refusal.State
+  no_state : {T : Table} {B : Book} {s width : ℕ} → T.states ≤ s → Reason (loaded T B) (quote s width) refusal.State
   no_room : {T : Table} {B : Book} {list : List ℕ} → length list < T.states → Reason (loaded T B) (plan list) refusal.Room
 
 -- the engine is as if T had just been opened: it holds the same, and every list of calls answers and leads as after that open

@@ -1,5 +1,6 @@
 // What an engine answers and holds after every call, as definitions, and the law over whole histories.
-// The law stands on the contracts of the engine's own calls (crate `engine`).
+// The law stands on the contracts of the engine's own calls too (crate `engine`).
+// Two functions below stand for one theorem each: the contract is the theorem, and the answer is the theorem's number.
 #![tactic(auto)]
 
 mod refusal;

@@ -1,5 +1,5 @@
 ghost use Rattle.std.specs.Prelude.{◌≡◌};
-ghost use Rattle.table.specs.Faults.{noted as notedAt};
+ghost use Rattle.table.specs.Faults.{noted as noted_at};
 ghost use Rattle.history.specs.Refusals.{refusal_notice, refusal_of};
 
 use model::LoadFault;
@@ -25,7 +25,7 @@ pub enum Refusal {
 }
 
 fn numbered(number: u32) -> Notice
-    ensures { result ≡ notedAt number 0 0 0 }
+    ensures { result ≡ noted_at number 0 0 0 }
 {
     Notice {
         number,

@@ -1,9 +1,9 @@
 -- The line of a refusal: E, its number and the places that it has.
 use Rattle.std.specs.Prelude.{ℕ, List, [], ◌∷◌, map, pos}
 use Rattle.std.specs.Option.{option_to_list}
-use Rattle.table.specs.Faults.{notice_of as faultNotice}
+use Rattle.table.specs.Faults.{notice_of as fault_notice}
 use Rattle.table.specs.declared.fault.Notice.{Notice}
-use Rattle.modelfile.specs.Faults.{notice_of as fileNotice}
+use Rattle.modelfile.specs.Faults.{notice_of as file_notice}
 use Rattle.modelfile.specs.declared.fault.FileFault.{FileFault}
 use Rattle.history.specs.Refusals.{refusal_notice}
 use Rattle.history.specs.declared.refusal.Refusal.{Refusal}
@@ -19,7 +19,7 @@ limit_places n = n.state ∷ n.choice ∷ n.branch ∷ []
 
 -- a table's broken limit has its place in the table, want of memory has none, and a refused command has the number of its line
 abbrev pub places_of : ℕ → Refusal → List ℕ
-places_of line (Table e) = limit_places (faultNotice e)
+places_of line (Table e) = limit_places (fault_notice e)
 places_of line Memory = []
 places_of line Idle = line ∷ []
 places_of line Component = line ∷ []
@@ -33,7 +33,7 @@ refused_line line e = error_line (refusal_notice e).number (places_of line e)
 
 -- a refused file: its byte place, where it has one
 abbrev pub refused_file : FileFault → List ℕ
-refused_file e = error_line (fileNotice e).number (option_to_list (fileNotice e).place)
+refused_file e = error_line (file_notice e).number (option_to_list (file_notice e).place)
 
 -- a line that spells no command
 abbrev pub unread_line : ℕ → List ℕ

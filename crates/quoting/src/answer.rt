@@ -1,6 +1,6 @@
 ghost use Rattle.std.specs.Prelude.{◌≡◌, IfOk, string_bytes};
-ghost use Rattle.history.specs.Calls.{next, run as runCalls};
-ghost use Rattle.history.specs.Answers.{answer as answerTo};
+ghost use Rattle.history.specs.Calls.{next, run as run_calls};
+ghost use Rattle.history.specs.Answers.{answer as answer_to};
 ghost use Rattle.console.specs.Commands.{command_of};
 ghost use Rattle.console.specs.Spelling.{letter_of};
 ghost use Rattle.engine.specs.States.{state_of};
@@ -20,7 +20,7 @@ impl Console {
     pub fn answer(&mut self, heap: Global, line: &[u8]) -> Result<String, AllocError>
         ensures bytes { IfOk result (λ t. string_bytes t ≡ reply (counted self.old.lines) (held self.old) line.now) }
         ensures count { self.new.lines ≡ counted self.old.lines }
-        ensures engine { held self.new ≡ runCalls (held self.old) (call_in (command_of line.now)) }
+        ensures engine { held self.new ≡ run_calls (held self.old) (call_in (command_of line.now)) }
     {
         self.lines = self.lines.saturating_add(1);
         match read_command(line) {
@@ -37,7 +37,7 @@ fn perform(
     line: u64,
     command: Command,
 ) -> Result<String, AllocError>
-    ensures bytes { IfOk result (λ t. string_bytes t ≡ written line (letter_of command) (states_of (state_of engine.old)) (answerTo (state_of engine.old) (call_of command))) }
+    ensures bytes { IfOk result (λ t. string_bytes t ≡ written line (letter_of command) (states_of (state_of engine.old)) (answer_to (state_of engine.old) (call_of command))) }
     ensures engine { state_of engine.new ≡ next (state_of engine.old) (call_of command) }
 {
     match command {
@@ -55,7 +55,7 @@ fn perform(
 
 // Makes a plan in a list of the program's own, and answers it.
 fn plan(heap: Global, engine: &mut Engine, line: u64) -> Result<String, AllocError>
-    ensures bytes { IfOk result (λ t. string_bytes t ≡ written line 80 (states_of (state_of engine.old)) (answerTo (state_of engine.old) (call_of Command.Plan))) }
+    ensures bytes { IfOk result (λ t. string_bytes t ≡ written line 80 (states_of (state_of engine.old)) (answer_to (state_of engine.old) (call_of Command.Plan))) }
     ensures engine { state_of engine.new ≡ next (state_of engine.old) (call_of Command.Plan) }
 {
     let mut list = [0; MOST_STATES];

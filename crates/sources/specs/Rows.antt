@@ -1,5 +1,5 @@
 -- The table that a caller's three lists stand for.
-use Rattle.std.specs.Prelude.{ℕ, ◌+◌, min, cond, List, length, ℤ, pos, nat_le, nat_lt, slice_index_or}
+use Rattle.std.specs.Prelude.{ℕ, ◌+◌, min, cond, List, length, pos, nat_le, nat_lt, slice_index_or}
 use Rattle.table.specs.Table.{Table}
 use Rattle.sources.specs.declared.list.StateRow.{StateRow}
 use Rattle.sources.specs.declared.list.ChoiceRow.{ChoiceRow}

@@ -1,5 +1,5 @@
 -- The law of the walk: nothing is broken exactly on lawful tables, and what is found first is the first that is broken.
-use Rattle.std.proofs.Common.{◌≡◌, ℕ, zero, suc, ◌+◌, ◌<◌, ◌≤◌, Bool, true, false, cond, not, ◌&&◌, ◌||◌, eqb, ltb, leb, List, [], ◌∷◌, ◌++◌, ℤ, pos, neg_ℤ, ◌≤ℤ◌, Some, None, Option, sym, refl, ap, ◌∙◌, subst, inl, inr, arith}
+use Rattle.std.proofs.Common.{◌≡◌, ℕ, zero, suc, ◌<◌, ◌≤◌, true, false, ◌&&◌, eqb, leb, List, [], ◌∷◌, ◌++◌, ℤ, pos, neg_ℤ, ◌≤ℤ◌, Some, None, sym, refl, ap, ◌∙◌, subst, inl, inr, arith}
 use lib.Signed.{le_z}
 use Rattle.std.proofs.ByRecursion.{All-append}
 use Rattle.std.proofs.lemmas.Int.{ints}
@@ -7,10 +7,10 @@ use Rattle.std.proofs.lemmas.Bool.{and_parts, and_from, cases_Bool, cases_eq, co
 use Rattle.std.specs.List.{AllByRecursion}
 use Rattle.table.specs.Sums.{sum_n}
 use Rattle.table.specs.Table.{Table, successor, weight}
-use Rattle.table.specs.Limits.{Lawful, SuccessorNew}
+use Rattle.table.specs.Limits.{Lawful}
 use Rattle.table.specs.Faults.{Limit, kept, leads_to}
-use Rattle.table.specs.Walk.{each, branch_walk, head_walk, choice_walk, state_walk, walk, first_broken, fault_of}
-use Rattle.table.specs.Law.{FirstOnWalk, WalkLaw}
+use Rattle.table.specs.Walk.{each, branch_walk, choice_walk, state_walk, walk, first_broken, fault_of}
+use Rattle.table.specs.Law.{WalkLaw}
 use Rattle.table.specs.declared.fault.Fault.{Fault}
 use Rattle.table.specs.declared.fault.Fault.TheVariants.{States, Denominator, Choices, Reward, Branches, Successor, Weight, Repeated, Sum}
 use Rattle.table.proofs.Walks.{leads_found}

@@ -1,5 +1,5 @@
 -- The nine limits of a table, each in plain words, and the lawful tables: those that keep all of them everywhere.
-use Rattle.std.specs.Prelude.{◌≡◌, ℕ, ◌<◌, ◌≤◌, ℤ, pos, neg_ℤ, ◌≤ℤ◌, ◌≢◌}
+use Rattle.std.specs.Prelude.{◌≡◌, ℕ, ◌<◌, ◌≤◌, pos, neg_ℤ, ◌≤ℤ◌, ◌≢◌}
 use Rattle.table.specs.Sums.{sum_n}
 use Rattle.table.specs.Table.{Table, successor, weight}
 

@@ -1,11 +1,9 @@
-use Rattle.std.proofs.Common.{◌≡◌, ℕ, Some, None, Ok, Err, sym, ap, ◌∙◌, arith}
+use Rattle.std.proofs.Common.{◌≡◌, ℕ, None, Ok, Err, sym, ap, ◌∙◌, arith}
 use Rattle.std.proofs.lemmas.Result.{err_from_is_err_and}
 use Rattle.table.specs.Table.{Table}
-use Rattle.table.specs.Faults.{Limit}
-use Rattle.table.specs.Walk.{each, state_walk, first_broken, fault_of}
+use Rattle.table.specs.Walk.{each, state_walk, first_broken}
 use Rattle.table.specs.Law.{verdict}
 use Rattle.table.specs.declared.fault.Fault.{Fault}
-use Rattle.table.specs.declared.fault.Fault.TheVariants.{States, Denominator}
 use Rattle.table.proofs.Walks.{clear_more, found_at, verdict_none, verdict_some}
 use Rattle.table.proofs.WalkLaw.{walk_law, at_states, at_denominator, past_denominator}
 use Rattle.table.proofs.walk.check.Goals as goal

@@ -1,4 +1,4 @@
-use Rattle.std.proofs.Common.{sym, rules}
+use Rattle.std.proofs.Common.{rules}
 use Rattle.table.proofs.Walks.{leads_more, leads_found}
 use Rattle.table.proofs.walk.leads_to.Goals as goal
 
