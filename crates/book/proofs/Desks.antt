@@ -1,5 +1,5 @@
 -- What a desk keeps, of its layout and of the frame that lends its lists.
-use Rattle.std.proofs.Common.{◌≡◌, ℕ, ◌<◌, ◌≤◌, true, false, cond, ltb, leb, List, ◌++◌, length, drop, ℤ, pos, sym, refl, ap, ◌∙◌, subst}
+use Rattle.std.proofs.Common.{◌≡◌, ℕ, ◌<◌, ◌≤◌, true, ltb, leb, List, ◌++◌, length, drop, ℤ, pos, sym, ap, ◌∙◌, subst}
 use Rattle.std.proofs.lemmas.Bool.{cond-true, cond-false, lt-ltb, le-ltb, le-leb, lt-leb}
 use Rattle.table.specs.Table.{Table}
 use Rattle.components.specs.Nodes.{components}
@@ -11,7 +11,7 @@ use Rattle.rules.specs.Sweep.{sweeps}
 use Rattle.rules.specs.Runs.{changed, refines, sweeping, closing}
 use Rattle.rules.specs.Play.{play}
 use Rattle.rules.specs.Promises.{upper_at, lower_at}
-use Rattle.book.specs.Books.{book_of, Kept}
+use Rattle.book.specs.Books.{Kept}
 use Rattle.book.specs.Frames.{table_of}
 use Rattle.book.specs.Keeps.{keeps}
 use Rattle.book.specs.Layouts.{layout_table, FrameOf}

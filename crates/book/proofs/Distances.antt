@@ -4,7 +4,7 @@ use Rattle.std.proofs.lemmas.List.{get_or-set_same, get_or-set_other}
 use Rattle.std.proofs.lemmas.Bool.{cases_Bool, cases_eq, cases_lt, and_parts, and_from, and_left, or_cases, or_right, cond-true, cond-false, cond_both, eq-eqb, ne_eqb, eqb-true, lt-ltb, le-ltb, le-leb, lt-leb}
 use Rattle.table.specs.Table.{Table, successor}
 use Rattle.table.specs.Limits.{Lawful}
-use Rattle.components.specs.Below.{any, first}
+use Rattle.components.specs.Below.{first}
 use Rattle.components.specs.Inside.{inside}
 use Rattle.components.specs.Nodes.{node_of}
 use Rattle.components.proofs.Below.{any_some, any_from, first_le}

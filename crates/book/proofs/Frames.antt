@@ -1,13 +1,12 @@
 -- What the rows of a framed table hold, place by place.
-use Rattle.std.proofs.Common.{◌≡◌, ℕ, ◌+◌, ◌^◌, ◌<◌, ◌≤◌, min, Bool, true, false, cond, ltb, leb, ◌⊎◌, List, length, get_or, ℤ, pos, sym, refl, ap, ◌∙◌, subst, inl, inr, arith}
+use Rattle.std.proofs.Common.{◌≡◌, ℕ, ◌+◌, ◌^◌, ◌<◌, ◌≤◌, ltb, leb, List, length, get_or, ℤ, pos, sym, ap, ◌∙◌, subst, inl, inr, arith}
 use Rattle.std.proofs.lemmas.Bool.{cases_Bool, cond-true, cond-false, leb-true, lt-ltb}
 use Rattle.table.specs.Sums.{sum_n}
-use Rattle.table.specs.Table.{Table, successor, weight}
-use Rattle.sources.specs.Rows.{run, no_state, no_choice, state_count, state_at, choice_count, choice_at, branch_count, branch_at}
+use Rattle.table.specs.Table.{successor, weight}
+use Rattle.sources.specs.Rows.{run, no_state, no_choice, state_count, state_at, choice_at}
 use Rattle.sources.specs.declared.list.StateRow.{StateRow}
 use Rattle.sources.specs.declared.list.ChoiceRow.{ChoiceRow}
-use Rattle.horizon.specs.Sums.{weighted_z, branch_sum_z}
-use Rattle.horizon.specs.SumsLemmas.{weighted_z_cong}
+use Rattle.horizon.specs.Sums.{branch_sum_z}
 use Rattle.book.proofs.Rows.{sum_n_cong, weighted_z_same}
 use Rattle.book.specs.Rows.{place_at, weight_at, run_sum}
 use Rattle.book.specs.Frames.{table_of, first_choice, first_branch, Framed}

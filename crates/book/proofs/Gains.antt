@@ -1,13 +1,13 @@
 -- How large the gains of a step can be, so that none overflows.
-use Rattle.std.proofs.Common.{◌≡◌, ℕ, ◌*◌, ◌^◌, ◌<◌, ◌≤◌, true, ℤ, pos, ◌+ℤ◌, ◌-ℤ◌, ◌*ℤ◌, neg_ℤ, ◌≤ℤ◌, Some, None, Option, arith}
+use Rattle.std.proofs.Common.{◌≡◌, ℕ, ◌^◌, ◌<◌, ◌≤◌, true, pos, neg_ℤ, ◌≤ℤ◌, Some, None, Option, arith}
 use Rattle.table.specs.Table.{Table, successor}
 use Rattle.table.specs.Limits.{Lawful}
-use Rattle.horizon.specs.Means.{Rounding, mean}
+use Rattle.horizon.specs.Means.{Rounding}
 use Rattle.horizon.specs.Ring.{lin}
 use Rattle.horizon.specs.MeansLemmas.{mean_from, mean_to}
 use Rattle.components.specs.Nodes.{in_component}
 use Rattle.rules.specs.Setting.{setting_of}
-use Rattle.rules.specs.Refine.{worth, best, gain}
+use Rattle.rules.specs.Refine.{worth, best}
 use Rattle.rules.specs.declared.exit.Candidate.{Candidate}
 use Rattle.rules.proofs.Sides.{Side}
 use Rattle.rules.proofs.StepFacts.{best_reached}

@@ -1,16 +1,16 @@
 -- The test of what the code's numbers keep finds just that.
-use Rattle.std.proofs.Common.{◌≡◌, ℕ, ◌<◌, Bool, true, false, ◌&&◌, eqb, ltb, leb, length, get_or, ℤ, pos, ◌≤ℤ◌, vec_items, vec_len, refl, ⊎_elim, arith}
+use Rattle.std.proofs.Common.{◌≡◌, ℕ, Bool, true, false, ◌&&◌, eqb, ltb, leb, length, get_or, ℤ, pos, ◌≤ℤ◌, vec_items, vec_len, refl, ⊎_elim, arith}
 use lib.Signed.{le_z}
 use Rattle.std.proofs.lemmas.Bool.{and_parts, and_from, cases_Bool, eq-eqb, eqb-true, le-leb, leb-true, lt-ltb, ltb-true}
 use Rattle.table.specs.Table.{Table}
 use Rattle.horizon.specs.Ring.{lin}
-use Rattle.components.specs.Below.{every, any}
+use Rattle.components.specs.Below.{any}
 use Rattle.components.specs.Nodes.{nodes, node_of, components, states_of}
 use Rattle.components.proofs.Below.{every_at, every_from, any_some, any_from}
 use Rattle.rules.specs.Choosing.{at, at_z}
 use Rattle.rules.specs.Setting.{Setting, setting_of, bottom, top}
 use Rattle.rules.specs.Book as rules
-use Rattle.rules.specs.Fit.{Lengths, VectorFits, RecordedFits, Within, ExitFits, PlanFits, Fit}
+use Rattle.rules.specs.Fit.{Lengths, VectorFits, RecordedFits, Within, ExitFits, Fit}
 use Rattle.rules.specs.declared.exit.Exit.{Exit}
 use Rattle.rules.specs.declared.exit.Exit.TheVariants.{Stay, Leave}
 use Rattle.book.specs.Books.{book_of, Kept}

@@ -1,5 +1,5 @@
 -- The book that the code's numbers stand for.
-use Rattle.std.specs.Prelude.{◌≡◌, ℕ, ◌<◌, List, map, ℤ, pos, ◌≤ℤ◌, vec_items, vec_len, slice_index_or, unsigned_abs}
+use Rattle.std.specs.Prelude.{◌≡◌, ℕ, ◌<◌, map, pos, ◌≤ℤ◌, vec_items, vec_len, slice_index_or, unsigned_abs}
 use Rattle.table.specs.Table.{Table}
 use Rattle.rules.specs.Setting.{setting_of}
 use Rattle.rules.specs.Book as rules

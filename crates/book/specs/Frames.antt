@@ -1,5 +1,5 @@
 -- The flat lists that the code works on, and the table, components and nodes that they hold.
-use Rattle.std.specs.Prelude.{◌≡◌, ℕ, ◌+◌, ◌-◌, ◌<◌, ◌≤◌, Bool, false, List, length, take, drop, Some, None, filter, Option, nat_eq, slice_index, slice_index_or}
+use Rattle.std.specs.Prelude.{◌≡◌, ℕ, ◌+◌, ◌-◌, ◌<◌, ◌≤◌, false, List, length, take, drop, Some, None, filter, nat_eq, slice_index, slice_index_or}
 use Rattle.std.specs.List.{range_with_len}
 use Rattle.table.specs.Table.{Table, successor, weight}
 use Rattle.table.specs.Limits.{Lawful}

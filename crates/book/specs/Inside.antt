@@ -1,5 +1,5 @@
 -- The best inside choice of a state, found choice by choice.
-use Rattle.std.specs.Prelude.{ℕ, zero, suc, Bool, cond, List, ℤ, pos, None, Option, slice_index_or, unsigned_abs}
+use Rattle.std.specs.Prelude.{ℕ, zero, suc, cond, List, ℤ, pos, None, Option, slice_index_or, unsigned_abs}
 use Rattle.table.specs.Table.{Table}
 use Rattle.components.specs.Inside.{inside}
 use Rattle.rules.specs.Sweep.{better}

@@ -1,5 +1,5 @@
 -- What the code's numbers of a table keep, as a test.
-use Rattle.std.specs.Prelude.{ℕ, Bool, true, ◌&&◌, map, length, ℤ, pos, vec_items, vec_len, ◌==◌, int_le, nat_le, nat_lt, slice_index_or}
+use Rattle.std.specs.Prelude.{ℕ, Bool, true, ◌&&◌, length, ℤ, pos, vec_items, vec_len, ◌==◌, int_le, nat_le, nat_lt, slice_index_or}
 use Rattle.table.specs.Table.{Table}
 use Rattle.components.specs.Below.{every, any}
 use Rattle.components.specs.Nodes.{nodes, node_of, components, states_of}

@@ -1,5 +1,5 @@
 -- What an accepted call answers and leaves.
-use Rattle.std.proofs.Common.{◌≡◌, ℕ, ◌<◌, ◌≤◌, Bool, true, false, cond, ◌&&◌, ltb, leb, List, ◌++◌, length, drop, ℤ, pos, ◌-ℤ◌, Some, None, Option, sym, refl, ap, ◌∙◌, subst, ap₂}
+use Rattle.std.proofs.Common.{◌≡◌, ℕ, ◌<◌, ◌≤◌, Bool, true, false, cond, ◌&&◌, ltb, leb, List, ◌++◌, length, drop, ℤ, pos, ◌-ℤ◌, Some, None, Option, sym, refl, ap, ◌∙◌, ap₂}
 use lib.Signed.{le_z}
 use Rattle.std.proofs.lemmas.Bool.{and_from, cond-true, lt-ltb, le-leb}
 use Rattle.table.specs.Table.{Table}
@@ -9,7 +9,7 @@ use Rattle.table.proofs.WalkLaw.{walk_law}
 use Rattle.components.specs.Nodes.{components}
 use Rattle.rules.specs.Choosing.{tabulate, at_z}
 use Rattle.rules.specs.Setting.{setting_of}
-use Rattle.rules.specs.Book.{Book, start}
+use Rattle.rules.specs.Book.{Book}
 use Rattle.rules.specs.Refine.{refine}
 use Rattle.rules.specs.Sweep.{sweeps}
 use Rattle.rules.specs.Play.{play}
@@ -21,9 +21,8 @@ use Rattle.model.specs.declared.fault.LoadFault.{LoadFault}
 use Rattle.model.specs.declared.fault.LoadFault.TheVariants.{Limit, Memory}
 use Rattle.book.specs.Desks.{desk_table, desk_book, AtStart, steps_made, bounds_at, plan_in}
 use Rattle.book.specs.declared.desk.Desk.{Desk}
-use Rattle.history.specs.Calls.{State, idle, loaded, Call, load, standing, refines, sweeping, close, quote, plan, counts, fresh, opened, after_load, after_call, next}
-use Rattle.history.specs.Answers.{Answer, refused, done, stands, refined, swept, quoted, planned, refine_answer, quote_answer, plan_answer, answer_loaded, answer}
-use Rattle.history.specs.Histories.{HistoryLaw}
+use Rattle.history.specs.Calls.{State, idle, loaded, standing, refines, sweeping, close, quote, plan, counts, fresh, opened, after_call, next}
+use Rattle.history.specs.Answers.{refused, done, stands, refined, swept, quoted, planned, refine_answer, quote_answer, plan_answer, answer_loaded, answer}
 use Rattle.history.specs.Refusals.{refusal_of}
 use Rattle.history.specs.declared.refusal.Refusal.{Refusal}
 use Rattle.history.specs.declared.refusal.Refusal.TheVariants as refusal

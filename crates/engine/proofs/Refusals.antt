@@ -1,10 +1,10 @@
 -- Where a call is refused: the reason, from what standing answers.
-use Rattle.std.proofs.Common.{◌≡◌, ℕ, ◌<◌, ◌≤◌, Bool, true, false, List, length, sym, ap, ◌∙◌, subst, arith}
+use Rattle.std.proofs.Common.{◌≡◌, ℕ, ◌<◌, ◌≤◌, false, List, length, sym, ap, ◌∙◌, subst, arith}
 use Rattle.table.specs.Table.{Table}
 use Rattle.components.specs.Nodes.{components}
 use Rattle.rules.specs.Book.{Book}
-use Rattle.history.specs.Calls.{State, idle, loaded, Call, load, standing, refines, sweeping, close, quote, plan, counts, next}
-use Rattle.history.specs.Answers.{Answer, refused, stands, answer_loaded, answer_idle, answer}
+use Rattle.history.specs.Calls.{State, idle, loaded, Call, standing, refines, sweeping, quote, plan, counts, next}
+use Rattle.history.specs.Answers.{refused, stands, answer_loaded, answer_idle, answer}
 use Rattle.history.specs.Refusing.{Needy, Reason, needed, no_component, bad_steps, bad_sweeps, no_state, no_room}
 use Rattle.history.specs.declared.refusal.Refusal.{Refusal}
 use Rattle.history.specs.declared.refusal.Refusal.TheVariants as refusal

@@ -1,9 +1,8 @@
 -- One more call at the end of a list.
-use Rattle.std.proofs.Common.{◌≡◌, ℕ, Bool, true, false, List, [], ◌∷◌, ◌++◌, is_err, IfOk, Ok, Err, Result, sym, refl, ap, ◌∙◌, subst, arith}
+use Rattle.std.proofs.Common.{◌≡◌, ℕ, Bool, true, List, [], ◌∷◌, ◌++◌, is_err, IfOk, Ok, Err, Result, sym, refl, ap, ◌∙◌, arith}
 use Rattle.table.specs.Table.{Table}
 use Rattle.history.specs.Calls.{State, idle, loaded, Call, standing, quote, opened, next, after_idle, after_call, run}
 use Rattle.history.specs.Answers.{Answer, answer, answers}
-use Rattle.history.specs.Histories.{HistoryLaw}
 use Rattle.engine.specs.Opens.{Opens}
 use Rattle.engine.specs.Replays.{call_of, Makes, Stand, Replayed}
 use Rattle.engine.specs.declared.call.Call.{Call as CodeCall}

@@ -1,7 +1,7 @@
 -- What an open gives, and a load.
 use Rattle.std.specs.Prelude.{◌≡◌, Bool}
 use Rattle.table.specs.Table.{Table}
-use Rattle.history.specs.Calls.{State, Call, load, opened, next}
+use Rattle.history.specs.Calls.{State, load, opened, next}
 use Rattle.history.specs.Answers.{Answer, answer}
 use Rattle.history.specs.Histories.{HistoryLaw}
 

@@ -1,5 +1,5 @@
 -- What an engine holds, and what its results stand for.
-use Rattle.std.specs.Prelude.{◌≡◌, ℕ, Bool, List, ℤ, Ok, Err, Result}
+use Rattle.std.specs.Prelude.{ℕ, List, ℤ, Ok, Err, Result}
 use Rattle.history.specs.declared.refusal.Refusal.{Refusal}
 use Rattle.history.specs.Calls.{State, idle, loaded}
 use Rattle.history.specs.Answers.{Answer, refused, done, stands, refined, swept, quoted, planned}

@@ -1,6 +1,5 @@
 -- The law over whole histories: every engine holds a sound book of a lawful table, or nothing.
-use Rattle.std.proofs.Common.{◌≡◌, ℕ, zero, suc, ◌^◌, ◌<◌, ◌≤◌, Bool, true, false, cond, ◌&&◌, ltb, leb, ◌⊎◌, List, [], ◌∷◌, ◌++◌, length, get_or, drop, ℤ, pos, ◌+ℤ◌, ◌-ℤ◌, ◌*ℤ◌, ◌≤ℤ◌, Some, None, Option, sym, refl, ap, ◌∙◌, subst, inl, inr, arith}
-use lib.Signed.{le_z}
+use Rattle.std.proofs.Common.{◌≡◌, ℕ, zero, suc, ◌^◌, ◌<◌, Bool, true, false, cond, ◌&&◌, ltb, leb, List, [], ◌∷◌, ◌++◌, length, get_or, drop, ℤ, pos, ◌+ℤ◌, ◌-ℤ◌, ◌*ℤ◌, ◌≤ℤ◌, Some, None, Option, sym, refl, ap, ◌∙◌, subst, inl, inr, arith}
 use Rattle.std.proofs.lemmas.List.FromFn.{length-map-range_with_len, get_or-map-range_with_len}
 use Rattle.std.proofs.lemmas.List.{get_or_append_left}
 use Rattle.std.proofs.lemmas.Bool.{and_parts, cases_Bool, cond-true, cond-false, ltb-true, lt-ltb}
@@ -15,7 +14,7 @@ use Rattle.horizon.specs.Ring.{le_trans, le_same}
 use Rattle.horizon.specs.SumsLemmas.{weighted_z_cong}
 use Rattle.components.specs.Nodes.{components}
 use Rattle.rules.specs.Setting.{Setting, setting_of}
-use Rattle.rules.specs.Book.{Book, start}
+use Rattle.rules.specs.Book.{Book}
 use Rattle.rules.specs.Refine.{refine}
 use Rattle.rules.specs.Choosing.{tabulate}
 use Rattle.rules.specs.Sweep.{sweeps}
@@ -25,11 +24,11 @@ use Rattle.rules.specs.Sound.{Sound}
 use Rattle.rules.proofs.Promises.{every_sound}
 use Rattle.rules.specs.Promises as rules
 use Rattle.history.specs.Calls.{State, idle, loaded, Call, load, standing, refines, sweeping, close, quote, plan, counts, fresh, opened, after_load, after_call, after_idle, next, run}
-use Rattle.history.specs.Answers.{Answer, refused, done, quoted, planned, load_answer, quote_answer, plan_answer, answer_loaded, answer}
-use Rattle.history.specs.Histories.{scale, excess, Holds, UpperPromise, LowerPromise, Tighter, Quiet, HistoryLaw, EveryHistory}
+use Rattle.history.specs.Answers.{refused, done, quoted, planned, load_answer, quote_answer, plan_answer, answer_loaded, answer}
+use Rattle.history.specs.Histories.{scale, excess, Holds, UpperPromise, LowerPromise, Tighter, Quiet, EveryHistory}
 use Rattle.history.specs.declared.refusal.Refusal.{Refusal}
 use Rattle.history.specs.declared.refusal.Refusal.TheVariants as refusal
-use Rattle.history.proofs.Refusing.{found_or_none, answer_broken, answer_kept, after_broken, after_kept, next_load}
+use Rattle.history.proofs.Refusing.{found_or_none, answer_kept, after_broken, after_kept}
 
 -- Bounds that stay, and bounds that tighten twice
 

@@ -1,6 +1,6 @@
 -- When a call is refused, what a refusal leaves, and what an accepted load forgets.
-use Rattle.std.proofs.Common.{◌≡◌, ℕ, ◌<◌, ◌≤◌, Bool, true, false, cond, ◌&&◌, ltb, leb, ◌⊎◌, List, [], ◌∷◌, ◌++◌, length, Some, None, Option, sym, refl, ap, ◌∙◌, subst, inl, inr, arith}
-use Rattle.std.proofs.lemmas.Bool.{and_cases, and_left, and_parts, and_right, cases_Bool, cond-true, cond-false, le-leb, le-ltb, leb-false, leb-true, lt-leb, lt-ltb, ltb-false, ltb-true}
+use Rattle.std.proofs.Common.{◌≡◌, ℕ, Bool, true, false, cond, ◌&&◌, ltb, leb, ◌⊎◌, List, [], ◌∷◌, ◌++◌, length, Some, None, Option, sym, refl, ap, ◌∙◌, subst, inl, inr, arith}
+use Rattle.std.proofs.lemmas.Bool.{and_cases, and_left, and_parts, and_right, cases_Bool, cond-true, cond-false, le-ltb, leb-false, lt-leb, lt-ltb, ltb-false, ltb-true}
 use Rattle.table.specs.Table.{Table}
 use Rattle.table.specs.Walk.{fault_of}
 use Rattle.table.specs.declared.fault.Fault.{Fault}
@@ -10,7 +10,7 @@ use Rattle.rules.specs.Setting.{setting_of}
 use Rattle.rules.specs.Refine.{refine}
 use Rattle.rules.specs.Sweep.{sweeps}
 use Rattle.history.specs.Calls.{State, idle, loaded, Call, load, standing, refines, sweeping, close, quote, plan, counts, fresh, opened, after_load, after_call, after_idle, next, run}
-use Rattle.history.specs.Answers.{Answer, refused, done, stands, swept, load_answer, refine_answer, quote_answer, plan_answer, answer_loaded, answer_idle, answer, answers}
+use Rattle.history.specs.Answers.{refused, done, stands, swept, load_answer, refine_answer, quote_answer, plan_answer, answer_loaded, answer_idle, answer, answers}
 use Rattle.history.specs.Refusing.{Needy, Miscounted, Reason, broken, starved, unopened, needed, no_component, bad_steps, bad_sweeps, no_state, no_room, AsOpened, RefusalLaw}
 use Rattle.history.specs.declared.refusal.Refusal.{Refusal}
 use Rattle.history.specs.declared.refusal.Refusal.TheVariants as refusal

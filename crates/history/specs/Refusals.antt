@@ -1,5 +1,4 @@
 -- The number of each refusal, and its place in the table where it has one.
-use Rattle.std.specs.Prelude.{ℕ, List, [], ◌∷◌}
 use Rattle.table.specs.Faults.{noted, notice_of}
 use Rattle.table.specs.declared.fault.Notice.{Notice}
 use Rattle.model.specs.declared.fault.LoadFault.{LoadFault}

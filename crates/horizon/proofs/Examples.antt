@@ -1,5 +1,5 @@
 -- The worked example: the limits, the strategy, the numbers and the two certificates, by computation
-use Rattle.std.proofs.Common.{ℕ, zero, suc, ◌*◌, ◌<◌, [], ◌∷◌, ℤ, pos, ◌+ℤ◌, ◌*ℤ◌, ◌≤ℤ◌, refl, arith}
+use Rattle.std.proofs.Common.{ℕ, zero, suc, ◌*◌, ◌<◌, [], ◌∷◌, pos, ◌+ℤ◌, ◌*ℤ◌, ◌≤ℤ◌, refl, arith}
 use lib.Signed.{le_z_yes}
 use Rattle.table.specs.Limits.{ChoicesWithin, RewardWithin, BranchesWithin, SuccessorWithin, WeightPresent, SuccessorNew, WeightsComplete, Lawful}
 use Rattle.horizon.specs.Sums.{branch_sum_n, branch_sum_z}

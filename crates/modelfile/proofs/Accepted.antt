@@ -1,19 +1,16 @@
 -- What is read stands in the file as the writer writes it.
-use Rattle.std.proofs.Common.{◌≡◌, ℕ, zero, suc, ◌+◌, ◌-◌, ◌*◌, ◌/◌, ◌%◌, ◌^◌, ◌<◌, ◌≤◌, Bool, true, false, cond, ltb, leb, List, [], ◌∷◌, ◌++◌, length, get_or, take, drop, ℤ, Some, None, Ok, Err, Option, sym, refl, ap, ◌∙◌, subst, ap₂, inl, inr, pow-suc, arith, w32, SFits, to_z, of_z}
+use Rattle.std.proofs.Common.{◌≡◌, ℕ, zero, suc, ◌+◌, ◌*◌, ◌/◌, ◌%◌, ◌^◌, ◌<◌, ◌≤◌, Bool, true, false, cond, leb, List, [], ◌∷◌, ◌++◌, length, get_or, take, drop, ℤ, Some, Ok, Option, sym, refl, ap, ◌∙◌, subst, ap₂, pow-suc, arith, w32, SFits, to_z, of_z}
 use mir.Facts.{sfits_to_z}
 use Rattle.std.proofs.lemmas.List.{drop-drop, take-append-drop, append_assoc, length-append, length-take-le, length-drop, get_or-drop}
 use Rattle.std.proofs.lemmas.Int.{of_z-to_z}
-use Rattle.std.proofs.lemmas.Bool.{leb-true, ltb-true}
+use Rattle.std.proofs.lemmas.Bool.{leb-true}
 use Rattle.std.specs.List.{flat_map, AllByRecursion}
-use Rattle.modelfile.specs.Results.{Read, and_then, of_record, when_set}
+use Rattle.modelfile.specs.Results.{Read, and_then, when_set}
 use Rattle.modelfile.specs.Bytes.{field, little_endian, number, signed, text, branch, branch_run, branches}
-use Rattle.modelfile.specs.Records.{HeaderFields, ChoiceFields, has_bit, header, state, choice}
-use Rattle.modelfile.specs.File.{choice_run, state_run}
-use Rattle.modelfile.specs.Written.{bytes_of, written_signed, written_text, written_branch, written_branches, if_there, bit_of, written_choice, written_state, OneByte, TwoBytes, FourBytes, TextFits, BranchFits, BranchesFit, WhereThere, ChoiceFits, StateFits}
+use Rattle.modelfile.specs.Written.{bytes_of, written_signed, written_text, written_branch, written_branches, if_there, bit_of, OneByte, TextFits, BranchFits, BranchesFit, WhereThere}
 use Rattle.modelfile.specs.declared.fault.ByteFault.TheVariants.{Lacking}
-use Rattle.modelfile.specs.declared.fault.RecordFault.TheVariants.{UnknownBit}
 use Rattle.modelfile.proofs.Fields.{ok_same}
-use Rattle.modelfile.proofs.Inverse.{err_ok, then_inv, record_inv, test_inv}
+use Rattle.modelfile.proofs.Inverse.{then_inv, test_inv}
 
 -- the bytes bs stand in the file from p to q
 pub record Stands (file : List ℕ) (p : ℕ) (bs : List ℕ) (q : ℕ) : Type 0 where

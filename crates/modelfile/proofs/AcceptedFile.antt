@@ -1,9 +1,9 @@
 -- Records and whole files that are accepted stand in the file as the writer writes them.
-use Rattle.std.proofs.Common.{◌≡◌, ℕ, zero, suc, ◌+◌, ◌^◌, ◌<◌, ◌≤◌, Bool, true, false, cond, ltb, leb, List, [], ◌∷◌, ◌++◌, length, drop, Ok, Err, Option, sym, refl, ap, ◌∙◌, subst, ap₂, arith, w32, SFits}
+use Rattle.std.proofs.Common.{◌≡◌, ℕ, zero, suc, ◌+◌, ◌^◌, ◌<◌, ◌≤◌, cond, ltb, leb, List, [], ◌++◌, length, drop, Ok, sym, refl, ap, ◌∙◌, subst, ap₂, arith, w32, SFits}
 use Rattle.std.proofs.lemmas.List.{append-nil, drop_all}
 use Rattle.std.proofs.lemmas.Bool.{leb-true, ltb-true, ltb-false}
 use Rattle.std.specs.List.{flat_map, AllByRecursion}
-use Rattle.modelfile.specs.Results.{Read, and_then, of_record, of_file, when_set}
+use Rattle.modelfile.specs.Results.{and_then, of_record, of_file, when_set}
 use Rattle.modelfile.specs.Bytes.{number, signed, text, branches}
 use Rattle.modelfile.specs.Records.{HeaderFields, ChoiceFields, has_bit, header, state, choice}
 use Rattle.modelfile.specs.File.{Model, choice_run, state_run, at_end, body, read_file}

@@ -1,9 +1,9 @@
 -- Fields and runs of branches: where the bytes suffice, and where they do not.
-use Rattle.std.proofs.Common.{◌≡◌, ℕ, zero, suc, ◌+◌, ◌-◌, ◌*◌, ◌/◌, ◌<◌, ◌≤◌, Bool, true, false, cond, leb, List, [], ◌∷◌, length, take, drop, Ok, Err, Result, sym, refl, ap, ◌∙◌, ap₂, arith}
+use Rattle.std.proofs.Common.{◌≡◌, ℕ, zero, suc, ◌+◌, ◌-◌, ◌*◌, ◌<◌, ◌≤◌, true, leb, List, [], ◌∷◌, length, take, drop, Ok, Err, Result, sym, refl, ap, ◌∙◌, arith}
 use Rattle.std.proofs.lemmas.List.{drop-drop, take-take, drop-take}
 use Rattle.std.proofs.lemmas.Bool.{le-leb}
-use Rattle.modelfile.specs.Results.{Read, and_then}
-use Rattle.modelfile.specs.Bytes.{field, little_endian, number, branch, branch_run, branch_list}
+use Rattle.modelfile.specs.Results.{and_then}
+use Rattle.modelfile.specs.Bytes.{little_endian, branch, branch_run, branch_list}
 use Rattle.modelfile.specs.declared.fault.ByteFault.{ByteFault}
 
 pub ok_same : {A E : Type 0} {a b : A} → ◌≡◌ {A = Result A E} (Ok a) (Ok b) → a ≡ b

@@ -1,6 +1,6 @@
 -- Filling a list: one row more, and rows in two parts.
-use Rattle.std.proofs.Common.{◌≡◌, ℕ, zero, suc, ◌+◌, ◌-◌, ◌*◌, ◌<◌, ◌≤◌, List, [], ◌∷◌, ◌++◌, length, take, drop, set, Ok, sym, refl, ap, ◌∙◌, ap₂, arith}
-use Rattle.std.proofs.lemmas.List.{drop-drop, length-set, append-nil, set_split, drop-set-lt, take-set}
+use Rattle.std.proofs.Common.{◌≡◌, ℕ, zero, suc, ◌+◌, ◌-◌, ◌*◌, ◌<◌, ◌≤◌, List, length, take, drop, set, Ok, sym, refl, ap, ◌∙◌, ap₂, arith}
+use Rattle.std.proofs.lemmas.List.{drop-drop}
 use Rattle.modelfile.specs.Bytes.{little_endian, branch, branch_list}
 use Rattle.modelfile.specs.Filling.{fill}
 use Rattle.modelfile.proofs.Fields.{ok_same, branch_ok}

@@ -1,6 +1,6 @@
 -- What an accepted result says of the results that led to it.
 use Rattle.std.proofs.Common.{◌≡◌, ℕ, Bool, true, false, cond, Ok, Err, Result, refl, arith}
-use Rattle.modelfile.specs.Results.{Read, and_then, of_record, of_file}
+use Rattle.modelfile.specs.Results.{and_then, of_record, of_file}
 use Rattle.modelfile.specs.declared.fault.ByteFault.{ByteFault}
 use Rattle.modelfile.specs.declared.fault.RecordFault.{RecordFault}
 

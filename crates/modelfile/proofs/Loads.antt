@@ -1,11 +1,11 @@
 -- From lists filled as far as they reach to the caller's lists.
-use Rattle.std.proofs.Common.{◌≡◌, ℕ, zero, suc, ◌≤◌, Bool, true, false, cond, ◌&&◌, leb, List, [], ◌∷◌, ◌++◌, length, drop, set, Ok, Err, Result, sym, refl, ap, ◌∙◌, ap₂, arith}
+use Rattle.std.proofs.Common.{◌≡◌, ℕ, suc, ◌≤◌, Bool, true, false, cond, ◌&&◌, leb, List, [], ◌∷◌, ◌++◌, length, drop, set, Ok, Err, Result, sym, refl, ap, ◌∙◌, arith}
 use Rattle.std.proofs.lemmas.Bool.{and_parts, cond-true, cond-false, leb-true}
 use Rattle.sources.specs.declared.list.StateRow.{StateRow}
 use Rattle.sources.specs.declared.list.ChoiceRow.{ChoiceRow}
 use Rattle.modelfile.specs.File.{Model, read_file}
-use Rattle.modelfile.specs.Lists.{model_states, model_choices, model_branches, loaded_of, outcome, answered, after_call}
-use Rattle.modelfile.specs.Filling.{fill, Tally, tally, filled, tallied}
+use Rattle.modelfile.specs.Lists.{loaded_of, outcome}
+use Rattle.modelfile.specs.Filling.{fill, Tally, filled, tallied}
 use Rattle.modelfile.specs.declared.fault.FileFault.{FileFault}
 use Rattle.modelfile.specs.declared.fault.FileFault.TheVariants.{ShortList}
 use Rattle.modelfile.specs.declared.loaded.Loaded.{Loaded}

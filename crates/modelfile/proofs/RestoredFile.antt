@@ -1,14 +1,13 @@
 -- What the writer writes is read back: records and whole files.
-use Rattle.std.proofs.Common.{◌≡◌, ℕ, zero, suc, ◌+◌, ◌^◌, ◌<◌, ◌≤◌, Bool, true, false, cond, ltb, leb, List, [], ◌∷◌, ◌++◌, length, drop, is_some, Some, None, Ok, Err, Option, sym, refl, ap, ◌∙◌, subst, ap₂, arith, w32, SFits}
-use Rattle.std.proofs.lemmas.List.{append-nil, drop_all, length-append}
+use Rattle.std.proofs.Common.{◌≡◌, ℕ, ◌+◌, ◌<◌, ◌≤◌, ltb, leb, List, [], ◌∷◌, ◌++◌, length, is_some, Some, None, Ok, Err, Option, sym, refl, ap, ◌∙◌, arith, w32, SFits}
+use Rattle.std.proofs.lemmas.List.{append-nil, drop_all}
 use Rattle.std.proofs.lemmas.Bool.{le-leb, lt-ltb, le-ltb, cond-true, cond-false}
 use Rattle.std.specs.List.{flat_map, AllByRecursion}
-use Rattle.modelfile.specs.Results.{Read, and_then, of_record, of_file, when_set}
+use Rattle.modelfile.specs.Results.{of_record, of_file, when_set}
 use Rattle.modelfile.specs.Bytes.{number, signed, text, branches}
-use Rattle.modelfile.specs.Records.{HeaderFields, ChoiceFields, has_bit, header, state, choice}
-use Rattle.modelfile.specs.File.{Model, choice_run, state_run, at_end, body, read_file}
-use Rattle.modelfile.specs.Written.{bytes_of, written_signed, written_text, written_branches, if_there, bit_of, written_choice, written_state, written, FourBytes, TextFits, BranchesFit, WhereThere, ChoiceFits, StateFits, ModelFits}
-use Rattle.modelfile.specs.declared.fault.RecordFault.TheVariants.{UnknownBit}
+use Rattle.modelfile.specs.Records.{HeaderFields, ChoiceFields, has_bit, header, choice}
+use Rattle.modelfile.specs.File.{Model, choice_run, state_run, at_end, read_file}
+use Rattle.modelfile.specs.Written.{bytes_of, written_signed, written_text, written_branches, if_there, bit_of, written_choice, written_state, written, FourBytes, TextFits, BranchesFit, ChoiceFits, StateFits, ModelFits}
 use Rattle.modelfile.specs.declared.fault.FileFault.TheVariants.{Trailing, TooLong}
 use Rattle.modelfile.proofs.Fields.{then_ok}
 use Rattle.modelfile.proofs.Accepted.{Stands}

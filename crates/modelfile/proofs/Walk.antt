@@ -1,21 +1,21 @@
 -- What is left to read from a reader's place on, and the lists that it leads to.
-use Rattle.std.proofs.Common.{◌≡◌, ℕ, zero, suc, ◌+◌, ◌-◌, ◌<◌, ◌≤◌, Bool, true, false, cond, ltb, leb, List, [], ◌∷◌, ◌++◌, length, set, Some, None, Ok, Err, Option, Result, sym, refl, ap, ◌∙◌, subst, ap₂, arith}
+use Rattle.std.proofs.Common.{◌≡◌, ℕ, zero, suc, ◌+◌, ◌-◌, Bool, true, false, cond, ltb, List, [], ◌∷◌, ◌++◌, length, set, Some, None, Ok, Err, Option, Result, sym, refl, ap, ◌∙◌, ap₂, arith}
 use Rattle.std.proofs.lemmas.List.{length-append}
 use Rattle.std.proofs.lemmas.Bool.{lt-ltb}
 use Rattle.sources.specs.declared.list.StateRow.{StateRow}
 use Rattle.sources.specs.declared.list.ChoiceRow.{ChoiceRow}
 use Rattle.modelfile.specs.Results.{Read, and_then, of_file}
 use Rattle.modelfile.specs.Records.{HeaderFields, ChoiceFields, Fields, of_header, of_state, of_choice, header, state, choice}
-use Rattle.modelfile.specs.File.{Model, choice_run, state_run, at_end, body}
+use Rattle.modelfile.specs.File.{choice_run, state_run, at_end}
 use Rattle.modelfile.specs.Steps.{Cursor, standing, step}
-use Rattle.modelfile.specs.Lists.{reward_of, branches_of, choices_of, all_choices, state_row, choice_row, state_rows, choice_rows, branch_rows}
-use Rattle.modelfile.specs.Filling.{fill, counts, counted, with_state, with_choice, with_branches, Tally, tally, filled}
+use Rattle.modelfile.specs.Lists.{branches_of, choices_of, all_choices, state_rows, choice_rows, branch_rows}
+use Rattle.modelfile.specs.Filling.{fill, counts, counted, with_state, with_choice, with_branches, Tally, tally}
 use Rattle.modelfile.specs.declared.fault.RecordFault.{RecordFault}
 use Rattle.modelfile.specs.declared.fault.FileFault.{FileFault}
 use Rattle.modelfile.specs.declared.fault.FileFault.TheVariants.{Trailing}
 use Rattle.modelfile.specs.declared.loaded.Loaded.{Loaded}
-use Rattle.modelfile.proofs.Fields.{ok_same, then_ok, then_err}
-use Rattle.modelfile.proofs.Inverse.{err_ok, then_inv, end_inv}
+use Rattle.modelfile.proofs.Fields.{ok_same, then_ok}
+use Rattle.modelfile.proofs.Inverse.{err_ok, then_inv}
 
 -- rows in two parts
 pub fill_append : {X : Type 0} (xs ys : List X) (at : ℕ) (list : List X) → fill (xs ++ ys) at list ≡ fill ys (at + length xs) (fill xs at list)

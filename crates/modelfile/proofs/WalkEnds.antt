@@ -1,5 +1,5 @@
 -- A refusal on the way is that of the whole file, the way begins with the whole file, and each record moves on.
-use Rattle.std.proofs.Common.{◌≡◌, ℕ, zero, suc, ◌+◌, ◌-◌, ◌<◌, ◌≤◌, Bool, true, false, cond, ltb, leb, List, [], ◌∷◌, ◌++◌, length, Some, None, Ok, Err, Option, Result, unwrap_or, sym, refl, ap, ◌∙◌, subst, ap₂, arith}
+use Rattle.std.proofs.Common.{◌≡◌, ℕ, zero, suc, ◌+◌, ◌-◌, ◌<◌, ◌≤◌, Bool, true, false, cond, ltb, leb, List, [], ◌∷◌, ◌++◌, length, Some, None, Ok, Err, Option, Result, unwrap_or, sym, refl, ap, ◌∙◌, subst, arith}
 use Rattle.std.proofs.lemmas.List.{length-append}
 use Rattle.std.proofs.lemmas.Bool.{cond-true, le-leb}
 use Rattle.std.specs.List.{flat_map}
@@ -11,7 +11,7 @@ use Rattle.modelfile.specs.Bytes.{number}
 use Rattle.modelfile.specs.Records.{HeaderFields, ChoiceFields, Fields, of_header, of_state, of_choice, header, state, choice, fields_of}
 use Rattle.modelfile.specs.File.{Model, choice_run, state_run, at_end, body, read_file}
 use Rattle.modelfile.specs.Steps.{Cursor, standing, step}
-use Rattle.modelfile.specs.Written.{bytes_of, written_signed, written_text, written_branch, written_branches, if_there, bit_of, written_choice}
+use Rattle.modelfile.specs.Written.{written_signed, written_text, written_branch, written_branches, if_there, written_choice}
 use Rattle.modelfile.specs.Lists.{branches_of, all_choices, state_rows, choice_rows, branch_rows}
 use Rattle.modelfile.specs.Filling.{fill, size, counts, counted, Tally, tally, filled}
 use Rattle.modelfile.specs.declared.fault.RecordFault.{RecordFault}
@@ -21,7 +21,7 @@ use Rattle.modelfile.specs.declared.loaded.Loaded.{Loaded}
 use Rattle.modelfile.specs.declared.record.Record.{Record}
 use Rattle.modelfile.proofs.Fields.{ok_same, then_err}
 use Rattle.modelfile.proofs.Inverse.{err_ok, record_inv}
-use Rattle.modelfile.proofs.Accepted.{Stands, Small, number_reads}
+use Rattle.modelfile.proofs.Accepted.{Small, number_reads}
 use Rattle.modelfile.proofs.AcceptedFile.{header_reads, choice_reads}
 use Rattle.modelfile.proofs.Walk.{placed, Left, after, left_run, ended, finish, Stepped, after_header, after_choice, after_state, step_choice, step_state, none_some}
 

@@ -1,5 +1,5 @@
 -- The table that a model describes.
-use Rattle.std.specs.Prelude.{◌≡◌, ℕ, List, [], map, length, take, ℤ, pos, slice_index_or}
+use Rattle.std.specs.Prelude.{◌≡◌, ℕ, List, [], map, length, take, pos, slice_index_or}
 use Rattle.table.specs.Table.{Table}
 use Rattle.modelfile.specs.Records.{ChoiceFields}
 use Rattle.modelfile.specs.File.{Model}

@@ -1,8 +1,6 @@
 -- A refusal's number and place.
 use Rattle.std.specs.Prelude.{ℕ, Some, None, Option}
-use Rattle.modelfile.specs.declared.fault.ByteFault.{ByteFault}
 use Rattle.modelfile.specs.declared.fault.ByteFault.TheVariants.{Lacking}
-use Rattle.modelfile.specs.declared.fault.RecordFault.{RecordFault}
 use Rattle.modelfile.specs.declared.fault.RecordFault.TheVariants.{Bytes, UnknownBit}
 use Rattle.modelfile.specs.declared.fault.FileFault.{FileFault}
 use Rattle.modelfile.specs.declared.fault.FileFault.TheVariants.{Unread, Trailing, TooLong, ShortList}

@@ -6,12 +6,12 @@ use Rattle.table.specs.Table.{Table, successor}
 use Rattle.table.specs.Limits.{Lawful}
 use Rattle.horizon.specs.Means.{round_down, round_up}
 use Rattle.horizon.specs.Ring.{lin}
-use Rattle.components.specs.Below.{every, first}
+use Rattle.components.specs.Below.{every}
 use Rattle.components.specs.Inside.{inside}
 use Rattle.components.specs.Nodes.{nodes, node_of, states_of}
 use Rattle.components.proofs.Below.{every_from, first_none, any_from}
 use Rattle.rules.specs.Setting.{Setting}
-use Rattle.rules.specs.Choosing.{at_z, eq_z, largest, smallest}
+use Rattle.rules.specs.Choosing.{at_z, eq_z, smallest}
 use Rattle.rules.specs.Book.{Book, exit_at}
 use Rattle.rules.specs.Fit.{Lengths}
 use Rattle.rules.specs.Sweep.{Candidate, best_y, exit_or, update}

@@ -1,4 +1,4 @@
-use Rattle.std.proofs.Common.{◌≡◌, ℕ, ◌+◌, ◌<◌, Bool, true, false, get_or, ℤ, sym, ap, ◌∙◌, arith, w64, SFits, rules}
+use Rattle.std.proofs.Common.{◌≡◌, ℕ, ◌+◌, ◌<◌, true, false, get_or, ℤ, sym, ap, ◌∙◌, arith, w64, SFits, rules}
 use Rattle.std.proofs.lemmas.Int.{to_z-of_z}
 use Rattle.table.specs.Table.{Table}
 use Rattle.components.specs.Inside.{inside}
@@ -7,7 +7,7 @@ use Rattle.rules.specs.Refine.{worth}
 use Rattle.rules.specs.Setting.{setting_of}
 use Rattle.rules.specs.Sweep.{better}
 use Rattle.book.specs.Frames.{table_of}
-use Rattle.book.specs.Inside.{over_inside, vector_of}
+use Rattle.book.specs.Inside.{vector_of}
 use Rattle.book.proofs.Frames.{count_is, first_is, row_of}
 use Rattle.book.proofs.Insides.{by_choice, more_inside, more_leaving}
 use Rattle.book.proofs.gain.best_inside.Goals as goal

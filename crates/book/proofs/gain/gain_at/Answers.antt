@@ -1,8 +1,6 @@
-use Rattle.std.proofs.Common.{◌≡◌, ℕ, ◌^◌, ◌<◌, ◌≤◌, true, List, length, get_or, ℤ, pos, ◌-ℤ◌, neg_ℤ, nat_abs, ◌≤ℤ◌, Some, Option, sym, ap, ◌∙◌, arith, w64, SFits, rules}
+use Rattle.std.proofs.Common.{◌≡◌, ℕ, ◌^◌, ◌<◌, ◌≤◌, true, List, length, get_or, ℤ, pos, ◌-ℤ◌, neg_ℤ, ◌≤ℤ◌, Some, Option, ap, ◌∙◌, arith, w64, SFits}
 use Rattle.std.proofs.lemmas.Int.{ints, to_z-of_z}
 use Rattle.components.specs.Nodes.{in_component}
-use Rattle.table.specs.Table.{Table}
-use Rattle.table.specs.Limits.{Lawful}
 use Rattle.horizon.specs.Means.{Rounding, round_down, round_up}
 use Rattle.rules.specs.Setting.{setting_of}
 use Rattle.rules.specs.Refine.{worth, best, attains}

@@ -1,4 +1,4 @@
-use Rattle.std.proofs.Common.{◌≡◌, ℕ, ◌+◌, ◌-◌, ◌≤◌, get_or, ℤ, Option, ap, ◌∙◌, arith}
+use Rattle.std.proofs.Common.{◌≡◌, ℕ, ◌+◌, ◌≤◌, get_or, ℤ, Option, ap, ◌∙◌, arith}
 use Rattle.rules.specs.Setting.{setting_of}
 use Rattle.rules.specs.Candidates.{mean_of}
 use Rattle.rules.specs.Sweep.{staying, best_of}

@@ -1,4 +1,4 @@
-use Rattle.std.proofs.Common.{◌≡◌, true, sym, ap, ◌∙◌, subst}
+use Rattle.std.proofs.Common.{true, sym, ◌∙◌, subst}
 use Rattle.engine.specs.States.{state_of}
 use Rattle.engine.specs.Replays.{answer_of, call_of, Makes}
 use Rattle.engine.specs.declared.call.Call.{Call}

@@ -1,8 +1,7 @@
-use Rattle.std.proofs.Common.{◌≡◌, ℕ, ◌+◌, ◌-◌, ◌*◌, ◌/◌, ◌<◌, ◌≤◌, List, length, take, drop, Ok, Err, sym, ap, ◌∙◌, ap₂, arith}
+use Rattle.std.proofs.Common.{◌≡◌, ℕ, ◌+◌, ◌-◌, ◌*◌, ◌/◌, List, length, take, drop, Ok, Err, sym, ap, ◌∙◌, arith}
 use Rattle.std.proofs.lemmas.List.{length-take, length-drop}
 use Rattle.std.proofs.lemmas.Result.{err_from_is_err_and}
-use Rattle.modelfile.specs.Results.{and_then}
-use Rattle.modelfile.specs.Bytes.{number, branch, branch_run, branch_list, branches, held_branches}
+use Rattle.modelfile.specs.Bytes.{number, branch, branch_run, branch_list, held_branches}
 use Rattle.modelfile.specs.declared.fault.ByteFault.{ByteFault}
 use Rattle.modelfile.proofs.Fields.{then_ok, run_ok, run_err, list_cut}
 use Rattle.modelfile.proofs.bytes.branches.Goals as goal

@@ -1,5 +1,5 @@
-use Rattle.std.proofs.Common.{◌≡◌, ℕ, ◌+◌, ◌-◌, ◌*◌, ◌/◌, ◌<◌, ◌≤◌, List, [], length, drop, set, Ok, Err, sym, refl, ap, ◌∙◌, ap₂, arith}
-use Rattle.modelfile.specs.Bytes.{branch, branch_list}
+use Rattle.std.proofs.Common.{◌≡◌, ℕ, ◌+◌, ◌-◌, ◌*◌, ◌/◌, ◌≤◌, List, length, drop, set, sym, ap, ◌∙◌, arith}
+use Rattle.modelfile.specs.Bytes.{branch_list}
 use Rattle.modelfile.specs.Filling.{fill}
 use Rattle.modelfile.proofs.Fields.{branch_ok}
 use Rattle.modelfile.proofs.Fills.{list_long, fill_branch}

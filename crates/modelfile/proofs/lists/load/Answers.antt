@@ -1,11 +1,9 @@
-use Rattle.std.proofs.Common.{◌≡◌, ℕ, ◌≤◌, Bool, true, false, List, [], length, Ok, Err, Result, sym, refl, ap, ◌∙◌, arith}
+use Rattle.std.proofs.Common.{◌≡◌, ℕ, true, false, List, [], length, Err, Result, sym, ap, ◌∙◌}
 use Rattle.std.proofs.lemmas.Result.{err_from_is_err_and}
 use Rattle.modelfile.specs.File.{Model, read_file}
-use Rattle.modelfile.specs.Lists.{model_states, model_choices, model_branches, loaded_of, outcome, answered, after_call}
-use Rattle.modelfile.specs.Filling.{fill, Tally, tally, filled}
+use Rattle.modelfile.specs.Lists.{model_states, model_choices, model_branches, loaded_of, answered, after_call}
+use Rattle.modelfile.specs.Filling.{filled}
 use Rattle.modelfile.specs.declared.fault.FileFault.{FileFault}
-use Rattle.modelfile.specs.declared.fault.FileFault.TheVariants.{ShortList}
-use Rattle.modelfile.specs.declared.loaded.Loaded.{Loaded}
 use Rattle.modelfile.proofs.Loads.{fill_front, filled_err, filled_ok, tallied_ok, outcome_err, outcome_short, outcome_ok, roomy, room}
 use Rattle.modelfile.proofs.FileLaws.{file_law}
 use Rattle.modelfile.proofs.lists.load.Goals as goal

@@ -1,10 +1,8 @@
-use Rattle.std.proofs.Common.{◌≡◌, ◌<◌, ◌≤◌, length, pos, vec_items, sym, refl, ap, ◌∙◌, arith, w64, SFits, rules}
-use Rattle.book.specs.Books.{book_of}
-use Rattle.book.specs.Desks.{desk_table, desk_book}
+use Rattle.std.proofs.Common.{◌≡◌, ◌<◌, ◌≤◌, length, pos, vec_items, sym, arith, w64, SFits, rules}
+use Rattle.book.specs.Desks.{desk_table}
 use Rattle.std.proofs.lemmas.List.{get_or_read, get_or_past}
 use Rattle.std.proofs.lemmas.Int.{to_z-of_z}
 use Rattle.rules.specs.Choosing.{at_z}
-use Rattle.components.specs.Nodes.{components}
 use Rattle.book.proofs.Keeps.{keeps_true}
 use Rattle.book.proofs.desk.Desk.bounds.Goals as goal
 

@@ -1,4 +1,4 @@
-use Rattle.std.proofs.Common.{◌≡◌, sym, refl, ap, ◌∙◌}
+use Rattle.std.proofs.Common.{ap, ◌∙◌}
 use Rattle.table.specs.Table.{Table}
 use Rattle.rules.specs.Setting.{setting_of}
 use Rattle.rules.specs.Book.{start}

@@ -1,5 +1,4 @@
-use Rattle.std.proofs.Common.{◌≡◌, ◌<◌, ◌≤◌, length, sym, refl, ap, ◌∙◌, arith}
-use Rattle.book.specs.Books.{book_of}
+use Rattle.std.proofs.Common.{◌<◌, ◌≤◌, length, refl, arith}
 use Rattle.book.specs.Desks.{desk_table, desk_book}
 use Rattle.book.proofs.Desks.{states_within, no_plan, kept_at, keeps_at, some_plan}
 use Rattle.book.proofs.desk.Desk.plan.Goals as goal

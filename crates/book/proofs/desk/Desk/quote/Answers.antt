@@ -1,4 +1,4 @@
-use Rattle.std.proofs.Common.{◌≡◌, ◌<◌, ◌≤◌, pos, sym, subst, arith}
+use Rattle.std.proofs.Common.{◌<◌, ◌≤◌, pos, sym, subst, arith}
 use Rattle.table.specs.Table.{Table}
 use Rattle.horizon.specs.Ring.{lin}
 use Rattle.components.specs.Nodes.{nodes, node_of}

@@ -1,4 +1,4 @@
-use Rattle.std.proofs.Common.{◌≡◌, ◌^◌, ◌<◌, ◌≤◌, sym, refl, ap, ◌∙◌, arith, rules}
+use Rattle.std.proofs.Common.{◌^◌, ◌<◌, ◌≤◌, refl, arith, rules}
 use Rattle.book.specs.Books.{book_of}
 use Rattle.book.specs.Desks.{desk_table, desk_book}
 use Rattle.table.specs.Table.{Table}

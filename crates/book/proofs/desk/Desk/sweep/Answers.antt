@@ -1,6 +1,6 @@
-use Rattle.std.proofs.Common.{◌≡◌, sym, refl, ap, ◌∙◌, arith}
+use Rattle.std.proofs.Common.{refl}
 use Rattle.book.specs.Books.{book_of}
-use Rattle.book.specs.Desks.{desk_table, desk_book}
+use Rattle.book.specs.Desks.{desk_book}
 use Rattle.book.proofs.Desks.{kept_at, keeps_at, sweeps_made, swept}
 use Rattle.book.proofs.desk.Desk.sweep.Goals as goal
 

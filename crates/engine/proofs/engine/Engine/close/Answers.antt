@@ -1,6 +1,6 @@
-use Rattle.std.proofs.Common.{◌≡◌, sym, refl, ap, ◌∙◌, subst, arith}
+use Rattle.std.proofs.Common.{◌≡◌, sym, ap, ◌∙◌}
 use Rattle.history.specs.Calls.{State, loaded, close, next}
-use Rattle.history.specs.Answers.{Answer, answer}
+use Rattle.history.specs.Answers.{answer}
 use Rattle.book.specs.Desks.{desk_table, desk_book}
 use Rattle.engine.specs.States.{held_state, state_of}
 use Rattle.engine.proofs.Refusals.{idle_refuses, not_idle}

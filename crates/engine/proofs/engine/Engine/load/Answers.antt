@@ -1,7 +1,6 @@
-use Rattle.std.proofs.Common.{◌≡◌, Err, Result, sym, ap, ◌∙◌, subst}
+use Rattle.std.proofs.Common.{Result, sym, subst}
 use Rattle.std.proofs.lemmas.Result.{err_from_is_err_and}
 use Rattle.table.specs.Table.{Table}
-use Rattle.history.specs.Answers.{Answer}
 use Rattle.history.specs.declared.refusal.Refusal.{Refusal}
 use Rattle.engine.specs.States.{state_of, done_answer}
 use Rattle.engine.specs.Opens.{Loads}

@@ -1,4 +1,4 @@
-use Rattle.std.proofs.Common.{◌≡◌, ◌≤◌, length, sym, refl, ap, ◌∙◌, subst, arith}
+use Rattle.std.proofs.Common.{◌≡◌, ◌≤◌, length, sym, ap, ◌∙◌, arith}
 use Rattle.history.specs.Calls.{State, loaded, plan, next}
 use Rattle.history.specs.Answers.{Answer, planned, answer}
 use Rattle.book.specs.Desks.{desk_table, desk_book}

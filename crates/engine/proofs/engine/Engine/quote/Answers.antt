@@ -1,8 +1,8 @@
-use Rattle.std.proofs.Common.{◌≡◌, ◌<◌, cond, pos, ◌-ℤ◌, sym, refl, ap, ◌∙◌, subst, arith, w64, SFits, rules}
+use Rattle.std.proofs.Common.{◌≡◌, ◌<◌, cond, pos, ◌-ℤ◌, sym, ap, ◌∙◌, arith, w64, SFits, rules}
 use lib.Signed.{le_z}
 use Rattle.std.proofs.lemmas.Int.{to_z-of_z}
 use Rattle.history.specs.Calls.{State, loaded, quote}
-use Rattle.history.specs.Answers.{Answer, answer}
+use Rattle.history.specs.Answers.{answer}
 use Rattle.book.specs.Desks.{desk_table, desk_book}
 use Rattle.engine.specs.States.{held_state, state_of}
 use Rattle.engine.proofs.Refusals.{idle_refuses, state_refuses, not_idle, states_stand}

@@ -1,6 +1,6 @@
-use Rattle.std.proofs.Common.{◌≡◌, ◌<◌, sym, refl, ap, ◌∙◌, subst, arith, w64, SFits, rules}
+use Rattle.std.proofs.Common.{◌≡◌, ◌<◌, sym, ap, ◌∙◌, arith, w64, SFits, rules}
 use Rattle.history.specs.Calls.{State, loaded, refines, next}
-use Rattle.history.specs.Answers.{Answer, answer}
+use Rattle.history.specs.Answers.{answer}
 use Rattle.book.specs.Desks.{desk_table, desk_book}
 use Rattle.engine.specs.States.{held_state, state_of}
 use Rattle.std.proofs.lemmas.Int.{to_z-of_z}
