@@ -113,7 +113,7 @@ BUGS = [
     ("book", "src/refine.rt", "here + LowerSide::round(down, 2)", "here + down / 2", "half of a gain is rounded toward zero"),
     ("book", "src/gain.rt", "let choice = chosen(below.exit);", "let choice = chosen(above.exit);", "the choice recorded is the one of the upper side"),
     ("book", "src/refine.rt", "if !rises {", "if rises {", "choices are recorded unless lo rises"),
-    ("book", "src/serve.rt", ("use table::Source;", "Layout::of(heap, source)?"), ("use sources::Band;\nuse sources::BandSource;\nuse table::Source;", "Layout::of(heap, &Band::new(1, 1, 1))?"), "the engine never asks its source: it opens a fixed table"),
+    ("book", "src/serve.rt", ("use table::Source;", "Layout::of(heap, source)?"), ("use sources::Band;\nuse table::Source;", "Layout::of(heap, &Band::new(1, 1, 1))?"), "the engine never asks its source: it opens a fixed table"),
     # definitions: what the code is held to
     ("horizon", "specs/Means.antt", "round_down (negsuc a) (suc k) = negsuc (a / suc k)", "round_down (negsuc a) (suc k) = neg_ℤ (pos (suc a / suc k))", "the definition of rounding down is toward zero"),
     ("history", "specs/Calls.antt", "counts n = nat_le 1 n && nat_le n 1000", "counts n = nat_le 1 n && nat_le n 1001", "the definition of a count allows 1,001"),
