@@ -59,7 +59,7 @@ module _ (f : Frame) (F : Framed f) (v : ℕ) (known : v < nodes (table_of f)) w
   members_length =
       let a = length-take (start_at f (v + 1) - start_at f v) (drop (start_at f v) f.members.now) in
       let b = length-drop (start_at f v) f.members.now in
-      let w = F.start-within v known in
+      let w = F.start_within v known in
       omega arith
 
   pub member_here : (i : ℕ) → start_at f v ≤ i → i < start_at f (v + 1) → get_or f.members.now i 0 ≡ get_or (members_at f v) (i - start_at f v) 0
@@ -71,7 +71,7 @@ module _ (f : Frame) (F : Framed f) (v : ℕ) (known : v < nodes (table_of f)) w
 
   pub member_state : (i : ℕ) → start_at f v ≤ i → i < start_at f (v + 1) → get_or f.members.now i 0 < (table_of f).states
   member_state i low high =
-      let q = F.members-at v known in
+      let q = F.members_at v known in
       let n = members_length in
       let p : ℕ → Bool = λ s. eqb (node_of (table_of f) s) v in
       let m : length (members_at f v) ≡ length (filter p (range_with_len 0 (table_of f).states)) = ap (λ (l : List ℕ). length l) q in
@@ -96,7 +96,7 @@ module _ (f : Frame) (F : Framed f) (v : ℕ) (known : v < nodes (table_of f)) w
   member_all g a i q =
       let M = setting_of (table_of f) in
       let n = members_length in
-      ap (λ (l : List ℕ). fold (over_state M g) a l) (take_all (i - start_at f v) (members_at f v) (omega arith) ∙ F.members-at v known)
+      ap (λ (l : List ℕ). fold (over_state M g) a l) (take_all (i - start_at f v) (members_at f v) (omega arith) ∙ F.members_at v known)
       ∙ over_kept M g v (table_of f).states a
 
 -- to stay, by what the node is

@@ -79,16 +79,16 @@ module _ (T : Table) (p : Parts) (D : Decomposed T p) (x : FlatLists) (n m k : �
   under : (v : ℕ) → v < nodes T → v < m
   under v h = subst (λ (i : ℕ). v < i) (sym all_nodes) h
 
-  node-size : length x.node ≡ T.states
-  node-size = ap length eo ∙ length-map-range_with_len (node_in p) 0 n ∙ en
+  node_size : length x.node ≡ T.states
+  node_size = ap length eo ∙ length-map-range_with_len (node_in p) 0 n ∙ en
 
   node_here : (s : ℕ) → s < T.states → get_or x.node s 0 ≡ node_of T s
   node_here s h =
       ap (λ (xs : List ℕ). get_or xs s 0) eo
       ∙ get_or-map-range_with_len (node_in p) 0 n s s 0 (subst (λ (i : ℕ). s < i) (sym en) h) (omega arith) ∙ D.node_is s h
 
-  component-size : length x.component ≡ nodes T
-  component-size = ap length ec ∙ length-map-range_with_len (component_in p) 0 m ∙ all_nodes
+  component_size : length x.component ≡ nodes T
+  component_size = ap length ec ∙ length-map-range_with_len (component_in p) 0 m ∙ all_nodes
 
   component_here : (v : ℕ) → v < nodes T → get_or x.component v None ≡ component_at T v
   component_here v h =
@@ -99,8 +99,8 @@ module _ (T : Table) (p : Parts) (D : Decomposed T p) (x : FlatLists) (n m k : �
   home_here j h =
       let w = component_node T D.law j h in
       let l : j < length x.home = subst (λ (i : ℕ). j < i) (sym (eh ∙ ek ∙ D.components_are)) h in
-      let q = H w.0 j (subst (λ (i : ℕ). w.0 < i) (sym component-size) w.1) (component_here w.0 w.1 ∙ w.2) l in
-      let r : get_or x.home j 0 < nodes T = subst (λ (i : ℕ). get_or x.home j 0 < i) component-size q.0 in
+      let q = H w.0 j (subst (λ (i : ℕ). w.0 < i) (sym component_size) w.1) (component_here w.0 w.1 ∙ w.2) l in
+      let r : get_or x.home j 0 < nodes T = subst (λ (i : ℕ). get_or x.home j 0 < i) component_size q.0 in
       (r, sym (component_here (get_or x.home j 0) r) ∙ q.1)
 
   link_here : (s c b : ℕ) → s < T.states → c < T.choices s → b < T.branches s c
@@ -119,27 +119,27 @@ module _ (T : Table) (p : Parts) (D : Decomposed T p) (x : FlatLists) (n m k : �
   holds : Holds T x
   holds = record {
     lawful = ap faultless ((walk_law T).lawful.1 D.lawful);
-    inside-size = copied.rows.flag_size;
+    inside_size = copied.rows.flag_size;
     insides = λ a.
         ap (λ (r : StateRow). get_or x.inside (r.first + a.choice) false)
         (row_is T D.lawful copied.outside (inside_in p) x.states x.choices x.branches x.inside copied.rows a.state a.state_in)
-        ∙ (copied.rows.at a.state a.state_in).flag a.choice a.choice-in
-        ∙ D.inside_is a.state a.choice (record { state = a.state_in; choice = a.choice-in });
-    node-size = node-size;
+        ∙ (copied.rows.at a.state a.state_in).flag a.choice a.choice_in
+        ∙ D.inside_is a.state a.choice (record { state = a.state_in; choice = a.choice_in });
+    node_size = node_size;
     node_at = node_here;
-    link-size = ap length el ∙ length-map x.branches (link_of (node_in p));
-    link_at = λ a. link_here a.at.state a.at.choice a.branch a.at.state_in a.at.choice-in a.branch_in;
-    start-size = G.size ∙ ap (λ (i : ℕ). i + 1) all_nodes;
-    start-rises = λ v h. G.rises v (under v h);
-    start-within = λ v h. G.within v (under v h);
-    members-at = λ v h.
+    link_size = ap length el ∙ length-map x.branches (link_of (node_in p));
+    link_at = λ a. link_here a.at.state a.at.choice a.branch a.at.state_in a.at.choice_in a.branch_in;
+    start_size = G.size ∙ ap (λ (i : ℕ). i + 1) all_nodes;
+    start_rises = λ v h. G.rises v (under v h);
+    start_within = λ v h. G.within v (under v h);
+    members_at = λ v h.
         G.at v (under v h)
-        ∙ ap (λ (i : ℕ). states_at x.node i v) node-size
+        ∙ ap (λ (i : ℕ). states_at x.node i v) node_size
         ∙ kept_ext (λ s. eqb (get_or x.node s 0) v) (λ s. eqb (node_of T s) v) T.states (λ s l. ap (λ (u : ℕ). eqb u v) (node_here s l));
-    component-size = component-size;
+    component_size = component_size;
     component-at = component_here;
-    home-size = eh ∙ ek ∙ D.components_are;
-    home-within = λ j h. (home_here j h).0;
+    home_size = eh ∙ ek ∙ D.components_are;
+    home_within = λ j h. (home_here j h).0;
     home_at = λ j h. (home_here j h).1;
   }
 
@@ -169,40 +169,40 @@ laid_out T p D x n m k branches node marks bs ns cs ew en em ek copied el eo G e
 pub framed_lists : (f : Frame) → Holds (flat_table (frame_lists f)) (frame_lists f) → Framed f
 framed_lists f H = record {
   lawful = (walk_law (flat_table (frame_lists f))).lawful.0 (faultless_none (fault_of (flat_table (frame_lists f))) H.lawful);
-  inside-size = H.inside-size;
-  insides = λ s c h l. H.insides (record { state = s; choice = c; state_in = h; choice-in = l });
-  node-size = H.node-size;
+  inside_size = H.inside_size;
+  insides = λ s c h l. H.insides (record { state = s; choice = c; state_in = h; choice_in = l });
+  node_size = H.node_size;
   node_at = H.node_at;
-  link-size = H.link-size;
-  link_at = λ s c b h l i. H.link_at (record { at = record { state = s; choice = c; state_in = h; choice-in = l }; branch = b; branch_in = i });
-  start-size = H.start-size;
-  start-rises = H.start-rises;
-  start-within = H.start-within;
-  members-at = H.members-at;
-  component-size = H.component-size;
+  link_size = H.link_size;
+  link_at = λ s c b h l i. H.link_at (record { at = record { state = s; choice = c; state_in = h; choice_in = l }; branch = b; branch_in = i });
+  start_size = H.start_size;
+  start_rises = H.start_rises;
+  start_within = H.start_within;
+  members_at = H.members_at;
+  component_size = H.component_size;
   component-at = H.component-at;
-  home-size = H.home-size;
-  home_at = λ k h. (H.home-within k h, H.home_at k h);
+  home_size = H.home_size;
+  home_at = λ k h. (H.home_within k h, H.home_at k h);
 }
 
 -- what the ghost fields of a layout say
 pub layout_holds : (l : Layout) → Holds (flat_table (lists_of l)) (lists_of l)
 layout_holds l = record {
   lawful = l.lawful;
-  inside-size = l.inside_size;
+  inside_size = l.inside_size;
   insides = l.insides;
-  node-size = l.node_size;
+  node_size = l.node_size;
   node_at = l.node_at;
-  link-size = l.link_size;
+  link_size = l.link_size;
   link_at = l.link_at;
-  start-size = l.start_size;
-  start-rises = l.start_rises;
-  start-within = l.start_within;
-  members-at = l.members_at;
-  component-size = l.component_size;
+  start_size = l.start_size;
+  start_rises = l.start_rises;
+  start_within = l.start_within;
+  members_at = l.members_at;
+  component_size = l.component_size;
   component-at = l.component_at;
-  home-size = l.home_size;
-  home-within = l.home_within;
+  home_size = l.home_size;
+  home_within = l.home_within;
   home_at = l.home_at;
 }
 

@@ -50,7 +50,7 @@ module _ (f : Frame) (F : Framed f) (v : ℕ) (known : v < nodes (table_of f)) w
   size =
       let a = length-take (start_at f (v + 1) - start_at f v) (drop (start_at f v) f.members.now) in
       let b = length-drop (start_at f v) f.members.now in
-      let w = F.start-within v known in
+      let w = F.start_within v known in
       omega arith
 
   place : (j : ℕ) → j < start_at f (v + 1) - start_at f v → get_or (members_at f v) j 0 ≡ member_at f (start_at f v + j)
@@ -63,7 +63,7 @@ module _ (f : Frame) (F : Framed f) (v : ℕ) (known : v < nodes (table_of f)) w
   member_of i low high =
       let n : ℕ = (table_of f).states in
       let p : ℕ → Bool = λ s. eqb (node_of (table_of f) s) v in
-      let q = F.members-at v known in
+      let q = F.members_at v known in
       let z = size in
       let m : length (members_at f v) ≡ length (filter p (range_with_len 0 n)) = ap (λ (l : List ℕ). length l) q in
       let r = kept_from p 0 (range_with_len 0 n) (i - start_at f v) (omega arith) in
@@ -81,7 +81,7 @@ module _ (f : Frame) (F : Framed f) (v : ℕ) (known : v < nodes (table_of f)) w
   place_of s h e =
       let n : ℕ = (table_of f).states in
       let p : ℕ → Bool = λ s. eqb (node_of (table_of f) s) v in
-      let q = F.members-at v known in
+      let q = F.members_at v known in
       let z = size in
       let g : get_or (range_with_len 0 n) s 0 ≡ s = counted n s h in
       let b = length-range_with_len 0 n in

@@ -79,7 +79,7 @@ first_member f F v h =
     let p : ℕ → Bool = λ s. eqb (node_of T s) v in
     let w = kept_head p T.states 0 p (λ i. ap p (omega arith)) (lowest_state T F.lawful v h) in
     let g : 0 + first T.states p ≡ first T.states p = omega arith in
-    let r = head_at f.members.now (start_at f v) (start_at f (v + 1) - start_at f v) (0 + first T.states p) w.0 (F.members-at v h ∙ w.1) in
+    let r = head_at f.members.now (start_at f v) (start_at f (v + 1) - start_at f v) (0 + first T.states p) w.0 (F.members_at v h ∙ w.1) in
     (r.0, r.1 ∙ g)
 
 leaves : (o : Option ℕ) (l a : ℕ) → o ≡ None → a ≡ l → Leave a 0 ≡ elim o [ Some i ↦ Stay | None ↦ Leave l 0 ]

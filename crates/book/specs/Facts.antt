@@ -25,7 +25,7 @@ pub record ChoiceIn (T : Table) : Type 0 where
   pub state : ℕ
   pub choice : ℕ
   pub state_in : state < T.states
-  pub choice-in : choice < T.choices state
+  pub choice_in : choice < T.choices state
 
 pub record BranchIn (T : Table) : Type 0 where
   pub at : ChoiceIn T

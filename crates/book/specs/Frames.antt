@@ -31,25 +31,25 @@ pub record Framed (f : Frame) : Type 0 where
   -- the table is lawful
   pub lawful : Lawful (table_of f)
   -- which choices are inside
-  pub inside-size : length f.inside.now ≡ length f.choices.now
+  pub inside_size : length f.inside.now ≡ length f.choices.now
   pub insides : (s c : ℕ) → s < (table_of f).states → c < (table_of f).choices s
       → slice_index_or f.inside.now (first_choice f s + c) false ≡ inside (table_of f) s c
   -- the node of each state
-  pub node-size : length f.node.now ≡ (table_of f).states
+  pub node_size : length f.node.now ≡ (table_of f).states
   pub node_at : (s : ℕ) → s < (table_of f).states → slice_index f.node.now s ≡ node_of (table_of f) s
   -- each branch with the node of its successor
-  pub link-size : length f.links.now ≡ length f.branches.now
+  pub link_size : length f.links.now ≡ length f.branches.now
   pub link_at : (s c b : ℕ) → s < (table_of f).states → c < (table_of f).choices s → b < (table_of f).branches s c
       → slice_index_or f.links.now (first_branch f s c + b) (0, 0) ≡ (node_of (table_of f) (successor (table_of f) s c b), weight (table_of f) s c b)
   -- the states of each node
-  pub start-size : length f.starts.now ≡ nodes (table_of f) + 1
-  pub start-rises : (v : ℕ) → v < nodes (table_of f) → start_at f v ≤ start_at f (v + 1)
-  pub start-within : (v : ℕ) → v < nodes (table_of f) → start_at f (v + 1) ≤ length f.members.now
-  pub members-at : (v : ℕ) → v < nodes (table_of f)
+  pub start_size : length f.starts.now ≡ nodes (table_of f) + 1
+  pub start_rises : (v : ℕ) → v < nodes (table_of f) → start_at f v ≤ start_at f (v + 1)
+  pub start_within : (v : ℕ) → v < nodes (table_of f) → start_at f (v + 1) ≤ length f.members.now
+  pub members_at : (v : ℕ) → v < nodes (table_of f)
       → members_at f v ≡ filter (λ s. nat_eq (node_of (table_of f) s) v) (range_with_len 0 (table_of f).states)
   -- the component that each node is, and the node of each component
-  pub component-size : length f.component.now ≡ nodes (table_of f)
+  pub component_size : length f.component.now ≡ nodes (table_of f)
   pub component-at : (v : ℕ) → v < nodes (table_of f) → slice_index_or f.component.now v None ≡ component_at (table_of f) v
-  pub home-size : length f.home.now ≡ components (table_of f)
+  pub home_size : length f.home.now ≡ components (table_of f)
   pub home_at : (k : ℕ) → k < components (table_of f)
       → (slice_index f.home.now k < nodes (table_of f)) × (component_at (table_of f) (slice_index f.home.now k) ≡ Some k)

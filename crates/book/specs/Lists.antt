@@ -27,18 +27,18 @@ flat_table x = list_table x.denominator x.states x.choices x.branches
 -- the lists hold the inside choices, nodes and components of a lawful table
 pub record Holds (T : Table) (x : FlatLists) : Type 0 where
   pub lawful : Unbroken T
-  pub inside-size : length x.inside ≡ length x.choices
+  pub inside_size : length x.inside ≡ length x.choices
   pub insides : InsidesAt T x.states x.choices x.branches x.inside
-  pub node-size : length x.node ≡ T.states
+  pub node_size : length x.node ≡ T.states
   pub node_at : NodesAt T x.node
-  pub link-size : length x.links ≡ length x.branches
+  pub link_size : length x.links ≡ length x.branches
   pub link_at : LinksAt T x.states x.choices x.branches x.links
-  pub start-size : length x.starts ≡ nodes T + 1
-  pub start-rises : StartsRise T x.starts
-  pub start-within : StartsWithin T x.starts x.members
-  pub members-at : MembersAt T x.starts x.members
-  pub component-size : length x.component ≡ nodes T
+  pub start_size : length x.starts ≡ nodes T + 1
+  pub start_rises : StartsRise T x.starts
+  pub start_within : StartsWithin T x.starts x.members
+  pub members_at : MembersAt T x.starts x.members
+  pub component_size : length x.component ≡ nodes T
   pub component-at : ComponentsAt T x.component
-  pub home-size : length x.home ≡ components T
-  pub home-within : HomesWithin T x.home
+  pub home_size : length x.home ≡ components T
+  pub home_within : HomesWithin T x.home
   pub home_at : HomesAt T x.home

@@ -41,12 +41,12 @@ pub decomposed : (T : Table) → Lawful T → (p : Parts) → Flagged T (vec_ite
 unfolding nodes components
 decomposed T law p f n N l = record {
   lawful = law;
-  inside-size = n;
+  inside_size = n;
   inside_is = λ s c q.
       let few = (law.choices s q.state).1 in
       let h = q.choice in
       ap (λ (b : Bool). b && flag_at (vec_items p.inside) s c) (lt-ltb c 16 (omega arith)) ∙ f s c q;
-  node-size = N.size;
+  node_size = N.size;
   node_is = N.node_at;
   nodes_are = l ∙ N.nodes;
   component_is = N.component-at;

@@ -22,9 +22,9 @@ component_in p v = slice_index_or (vec_items p.component) v None
 -- the parts are those of the definitions, and all that is true of these is true of them
 pub record Decomposed (T : Table) (p : Parts) : Type 0 where
   pub lawful : Lawful T
-  pub inside-size : length (vec_items p.inside) ≡ 16 * T.states
+  pub inside_size : length (vec_items p.inside) ≡ 16 * T.states
   pub inside_is : (s c : ℕ) → Choice T s c → inside_in p s c ≡ inside T s c
-  pub node-size : length (vec_items p.node) ≡ T.states
+  pub node_size : length (vec_items p.node) ≡ T.states
   pub node_is : (s : ℕ) → s < T.states → node_in p s ≡ node_of T s
   pub nodes_are : vec_len p.component ≡ nodes T
   pub component_is : (v : ℕ) → v < nodes T → component_in p v ≡ component_at T v

@@ -56,20 +56,20 @@ invariant_of-result g c =
     c.in_ok-home.ensures.size c.in_ok-home.ensures.homes in
     record {
       lawful = h.lawful;
-      inside_size = h.inside-size;
+      inside_size = h.inside_size;
       insides = h.insides;
-      node_size = h.node-size;
+      node_size = h.node_size;
       node_at = h.node_at;
-      link_size = h.link-size;
+      link_size = h.link_size;
       link_at = h.link_at;
-      start_size = h.start-size;
-      start_rises = h.start-rises;
-      start_within = h.start-within;
-      members_at = h.members-at;
-      component_size = h.component-size;
+      start_size = h.start_size;
+      start_rises = h.start_rises;
+      start_within = h.start_within;
+      members_at = h.members_at;
+      component_size = h.component_size;
       component_at = h.component-at;
-      home_size = h.home-size;
-      home_within = h.home-within;
+      home_size = h.home_size;
+      home_within = h.home_within;
       home_at = h.home_at;
     }
 

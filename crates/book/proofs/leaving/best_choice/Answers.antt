@@ -24,7 +24,7 @@ total-sum-requires g c =
     let k : i < (table_of f).choices s = omega arith in
     let size = branches_are f F s c.requires.state i k in
     let w = branches_within f F s c.requires.state i k in
-    let links = F.link-size in
+    let links = F.link_size in
     record {
       within = omega arith;
       inside = λ b l.

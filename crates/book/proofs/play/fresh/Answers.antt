@@ -12,13 +12,13 @@ returns-then-frame-s c = record {
 pub returns-then-marks-s : goal.returns-then-marks-s
 returns-then-marks-s c = record {
   found = λ e. absurd (both_ways false refl e);
-  missed = λ e w. (let n = c.requires.framed.node-size in let u = w.1 in omega arith);
+  missed = λ e w. (let n = c.requires.framed.node_size in let u = w.1 in omega arith);
 }
 
 pub returns : goal.returns
 returns c =
     let a = c.requires.framed.node_at c.args.state c.requires.known in
-    let n = c.requires.framed.node-size in
+    let n = c.requires.framed.node_size in
     let q = (choices_full c.args.frame.now c.requires.framed c.args.state c.requires.known).0 in
     let r = c.first_into.ensures in
     record {

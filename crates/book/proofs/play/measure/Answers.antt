@@ -13,7 +13,7 @@ use Rattle.book.proofs.play.measure.Goals.{then-fresh, else-fresh}
 
 pub loop-s-preserved : goal.loop-s-preserved
 loop-s-preserved c =
-    let n = c.requires.framed.node-size in
+    let n = c.requires.framed.node_size in
     let r = c.requires.room in
     let lt : c.loop-s.s < length c.loop-s.marks = omega arith in
     below_more _ _
@@ -22,7 +22,7 @@ loop-s-preserved c =
 
 pub loop-round-init : goal.loop-round-init
 loop-round-init c =
-    let n = c.requires.framed.node-size in
+    let n = c.requires.framed.node_size in
     let r = c.requires.room in
     let T : Table = table_of c.args.frame.now in
     distances.starts T c.requires.framed.lawful c.args.target c.args.node c.loop-s.marks (omega arith) c.requires.known
@@ -30,7 +30,7 @@ loop-round-init c =
 
 pub loop-state-preserved : goal.loop-state-preserved
 loop-state-preserved c =
-    let n = c.requires.framed.node-size in
+    let n = c.requires.framed.node_size in
     let r = c.requires.room in
     let T : Table = table_of c.args.frame.now in
     let L = c.requires.framed.lawful in
@@ -72,7 +72,7 @@ loop-state-preserved c =
 
 pub returns-then-not-further : goal.returns-then-not-further
 returns-then-not-further c =
-    let n = c.requires.framed.node-size in
+    let n = c.requires.framed.node_size in
     let T : Table = table_of c.args.frame.now in
     let t : ℕ = c.args.target in
     let v : ℕ = c.args.node in
@@ -85,7 +85,7 @@ returns-then-not-further c =
 
 pub returns : goal.returns
 returns c =
-    let n = c.requires.framed.node-size in
+    let n = c.requires.framed.node_size in
     let T : Table = table_of c.args.frame.now in
     let t : ℕ = c.args.target in
     let v : ℕ = c.args.node in

@@ -11,7 +11,7 @@ pub loop-s-preserved : goal.loop-s-preserved
 loop-s-preserved c =
     let T : Table = table_of c.args.frame.now in
     let s : ℕ = c.loop-s.s in
-    let z = c.requires.framed.node-size in
+    let z = c.requires.framed.node_size in
     let r = c.requires.room in
     let h : s < T.states = omega arith in
     let m : T.states ≤ length c.loop-s.list = omega arith in

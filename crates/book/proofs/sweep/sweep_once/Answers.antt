@@ -39,7 +39,7 @@ pub returns : goal.returns
 returns c =
     let M : Setting = setting_of (table_of c.args.frame.now) in
     let A : rules.Book = book_of c.args.book.now in
-    let size = c.requires.framed.component-size in
+    let size = c.requires.framed.component_size in
     let end : c.loop-node.node ≡ nodes (table_of c.args.frame.now) = omega arith in
     let all = quiet_all M A c.loop-node.node end in
     record { book = c.loop-node.invariant.0 ∙ all.0; kept = c.loop-node.invariant.1; still = c.loop-node.invariant.2 ∙ all.1 }
