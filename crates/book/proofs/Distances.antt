@@ -8,12 +8,13 @@ use Rattle.components.specs.Below.{first}
 use Rattle.components.specs.Inside.{inside}
 use Rattle.components.specs.Nodes.{node_of}
 use Rattle.components.proofs.Below.{any_some, any_from, first_le}
+use Rattle.components.proofs.Labels.{first_same}
 use Rattle.rules.specs.Choosing.{at}
 use Rattle.rules.specs.Layers.{layer, level}
 use Rattle.rules.specs.Play.{enters, inward, distance, toward}
 use Rattle.rules.proofs.Nodes.{stays_node}
 use Rattle.book.specs.Plays.{first_into, Measured}
-use Rattle.book.proofs.Lists.{any_ext, first_ext, first_most, first_hit}
+use Rattle.book.proofs.Lists.{any_ext, first_most, first_hit}
 
 -- the distance from s to t if it is at most k, and more than any distance if not
 abbrev pub distance_to : Table → ℕ → ℕ → ℕ → ℕ
@@ -226,6 +227,20 @@ module _ (T : Table) (L : Lawful T) (t : ℕ) where
         (λ (q : u ≡ s → ⊥). p u l e ∙ ap (λ (j : ℕ). distance_to T t j u) (apart u s k q))
         (cases_eq u s)
 
+    -- numbers that are no states of the node change nothing
+    pub skip : (k s n : ℕ) (marks : List ℕ) → Partly T v t k s marks → s ≤ n → ((u : ℕ) → s ≤ u → u < n → node_of T u ≡ v → ⊥) → Partly T v t k n marks
+    skip k s n marks p h none u l e =
+        p u l e
+        ∙ ap (λ (j : ℕ). distance_to T t j u)
+        (⊎_elim
+        (λ (a : u < s). passed u s k a ∙ sym (passed u n k (omega arith)))
+        (λ (a : s ≤ u).
+        ⊎_elim
+        (λ (b : u < n). absurd (none u a b e))
+        (λ (b : n ≤ u). ahead u s k a ∙ sym (ahead u n k b))
+        (cases_lt u n))
+        (cases_lt u s))
+
     pub next : (k : ℕ) (marks : List ℕ) → Partly T v t k T.states marks → Partly T v t (k + 1) 0 marks
     next k marks p u l e =
         p u l e ∙ ap (λ (j : ℕ). distance_to T t j u) (passed u T.states k l ∙ sym (ahead u 0 (k + 1) (omega arith)))
@@ -272,7 +287,7 @@ module _ (T : Table) (L : Lawful T) (t : ℕ) where
   toward_into s marks h n m =
       let o = distance_other s n in
       let ds = m s h refl in
-      first_ext (T.choices s)
+      first_same (T.choices s)
       (λ c. inside T s c && enters T (λ u. eqb (at marks u) (at marks s - 1)) s c)
       (λ c. inside T s c && enters T (λ u. eqb (suc (distance T t u)) (distance T t s)) s c)
       (λ c l.

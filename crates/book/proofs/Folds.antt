@@ -1,11 +1,9 @@
 -- Tests and folds in general.
-use Rattle.std.proofs.Common.{◌≡◌, ℕ, zero, suc, ◌+◌, ◌<◌, Bool, true, false, cond, ◌&&◌, List, [], ◌∷◌, ◌++◌, length, get_or, fold, filter, refl, ap, ◌∙◌, arith}
-use Rattle.std.specs.List.{range_with_len, AllByRecursion}
+use Rattle.std.proofs.Common.{◌≡◌, ℕ, zero, suc, ◌+◌, ◌<◌, Bool, true, false, cond, ◌&&◌, List, [], ◌∷◌, ◌++◌, fold, filter, refl, ap, ◌∙◌, arith}
+use Rattle.std.specs.List.{range_with_len}
 use Rattle.std.proofs.lemmas.List.{append-nil}
 use Rattle.std.proofs.lemmas.List.Sums.{fold_push}
 use Rattle.std.proofs.lemmas.List.Elements.{filter-append}
-use Rattle.std.proofs.ByRecursion.{all_kept_by, All-from_get_or, All-get_or}
-use Rattle.std.proofs.lemmas.List.FromFn.{length-range_with_len, get_or-range_with_len}
 use Rattle.components.specs.Below.{every}
 
 -- equal tests pass alike
@@ -18,13 +16,6 @@ every_same (suc n) p q h =
 pub counting_last : (a n j : ℕ) → a + n ≡ j → range_with_len a (suc n) ≡ range_with_len a n ++ (j ∷ [])
 counting_last a zero j e = let same : a ≡ j = omega arith in ap (λ (k : ℕ). k ∷ []) same
 counting_last a (suc n) j e = ap (λ (l : List ℕ). a ∷ l) (counting_last (a + 1) n j (omega arith))
-
--- each number that is kept of those below n is below n
-pub kept_below : (p : ℕ → Bool) (n i : ℕ) → i < length (filter p (range_with_len 0 n)) → get_or (filter p (range_with_len 0 n)) i 0 < n
-kept_below p n i h =
-    let below : AllByRecursion (λ k. k < n) (range_with_len 0 n) =
-    All-from_get_or (λ k. k < n) (range_with_len 0 n) 0 (λ k l. let c = length-range_with_len 0 n in let d = get_or-range_with_len 0 n k 0 (omega arith) in omega arith) in
-    All-get_or (λ k. k < n) (filter p (range_with_len 0 n)) i 0 h (all_kept_by p (λ k. k < n) (range_with_len 0 n) below)
 
 module _ {A : Type 0} (step : A → ℕ → A) (a : A) where
   -- a fold over a list with one more number, or without

@@ -1,45 +1,23 @@
 -- The steps of listing the states node by node.
-use Rattle.std.proofs.Common.{◌≡◌, ℕ, ◌+◌, ◌-◌, ◌*◌, ◌<◌, ◌≤◌, Bool, true, false, cond, not, eqb, List, [], ◌∷◌, ◌++◌, length, get_or, take, drop, filter, sym, refl, ap, ◌∙◌, subst, ap₂, ⊎_elim, arith}
+use Rattle.std.proofs.Common.{◌≡◌, ℕ, ◌+◌, ◌-◌, ◌*◌, ◌<◌, ◌≤◌, not, eqb, List, [], ◌∷◌, ◌++◌, length, get_or, take, drop, sym, refl, ap, ◌∙◌, subst, ap₂, ⊎_elim, arith}
 use Rattle.std.specs.List.{range_with_len}
-use Rattle.std.proofs.lemmas.List.FromFn.{length-range_with_len, filter_of_map_range_with_len_more}
+use Rattle.std.proofs.lemmas.List.FromFn.{length-range_with_len}
 use Rattle.std.proofs.lemmas.List.Filters.{length-filter_both}
-use Rattle.std.proofs.lemmas.List.{map-id, append_assoc, append-nil, length-append, length_push, get_or_push, get_or_append_left, take-append-le, drop-append-le, drop_at, take_all, length-drop}
-use Rattle.std.proofs.lemmas.Bool.{cases_eq, cond-true, cond-false}
+use Rattle.std.proofs.lemmas.List.{length-append, length_push, get_or_push, get_or_append_left, take-append-le, drop-append-le, drop_at, take_all, length-drop}
+use Rattle.std.proofs.lemmas.Bool.{cases_eq}
 use Rattle.book.specs.Grouped.{states_at, Grouped}
 
-pub kept_more : (p : ℕ → Bool) (n : ℕ) → filter p (range_with_len 0 (n + 1)) ≡ filter p (range_with_len 0 n) ++ cond (p n) (n ∷ []) []
-kept_more p n =
-    ap (λ (xs : List ℕ). filter p xs) (sym (map-id (range_with_len 0 (n + 1))))
-    ∙ filter_of_map_range_with_len_more p (λ (x : ℕ). x) 0 n n (omega arith)
-    ∙ ap (λ (xs : List ℕ). filter p xs ++ cond (p n) (n ∷ []) []) (map-id (range_with_len 0 n))
-
-module _ (node : List ℕ) (v s : ℕ) (old items : List ℕ) (inv : items ≡ old ++ states_at node s v) where
-  -- one more state, of the node or of another
-  pub members_here : eqb (get_or node s 0) v ≡ true → items ++ (s ∷ []) ≡ old ++ states_at node (s + 1) v
-  members_here e =
-      ap (λ (xs : List ℕ). xs ++ (s ∷ [])) inv ∙ append_assoc old (states_at node s v) (s ∷ [])
-      ∙ ap (λ (xs : List ℕ). old ++ (states_at node s v ++ xs)) (sym (cond-true (eqb (get_or node s 0) v) (s ∷ []) [] e))
-      ∙ ap (λ (xs : List ℕ). old ++ xs) (sym (kept_more (λ t. eqb (get_or node t 0) v) s))
-
-  pub members_past : eqb (get_or node s 0) v ≡ false → items ≡ old ++ states_at node (s + 1) v
-  members_past e =
-      inv
-      ∙ ap (λ (xs : List ℕ). old ++ xs)
-      (sym (append-nil (states_at node s v))
-      ∙ ap (λ (xs : List ℕ). states_at node s v ++ xs) (sym (cond-false (eqb (get_or node s 0) v) (s ∷ []) [] e))
-      ∙ sym (kept_more (λ t. eqb (get_or node t 0) v) s))
-
-few_states : (node : List ℕ) (k v : ℕ) → length (states_at node k v) ≤ k
+few_states : (node : ℕ → ℕ) (k v : ℕ) → length (states_at node k v) ≤ k
 few_states node k v =
-    let a = length-filter_both (λ s. eqb (get_or node s 0) v) (λ s. not (eqb (get_or node s 0) v)) (λ _. refl) (range_with_len 0 k) in
+    let a = length-filter_both (λ s. eqb (node s) v) (λ s. not (eqb (node s) v)) (λ _. refl) (range_with_len 0 k) in
     let b = length-range_with_len 0 k in
     omega arith
 
-pub few_members : (node starts members more : List ℕ) (k : ℕ) → length node ≤ 256 → Grouped node k starts members
-    → more ≡ members ++ states_at node (length node) k → length more ≤ 256 * k + 256
-few_members node starts members more k small G e =
-    let a = ap length e ∙ length-append members (states_at node (length node) k) in
-    let b = few_states node (length node) k in
+pub few_members : (node : ℕ → ℕ) (n k : ℕ) (starts members more : List ℕ) → n ≤ 256 → Grouped node n k starts members
+    → more ≡ members ++ states_at node n k → length more ≤ 256 * k + 256
+few_members node n k starts members more small G e =
+    let a = ap length e ∙ length-append members (states_at node n k) in
+    let b = few_states node n k in
     let d = G.few in
     omega arith
 
@@ -54,12 +32,12 @@ part_added : (xs ys : List ℕ) (a b : ℕ) → a ≡ length xs → b ≡ length
 part_added xs ys a b h l =
     ap (λ (zs : List ℕ). take (b - a) zs) (drop_at xs ys a (sym h)) ∙ take_all (b - a) ys (omega arith)
 
-module _ (node : List ℕ) (k x : ℕ) (starts next members more : List ℕ) (small : length node ≤ 256) where
-  pub grouped_more : Grouped node k starts members → more ≡ members ++ states_at node (length node) k
-      → next ≡ starts ++ (x ∷ []) → x ≡ length more → Grouped node (k + 1) next more
+module _ (node : ℕ → ℕ) (n k x : ℕ) (starts next members more : List ℕ) (small : n ≤ 256) where
+  pub grouped_more : Grouped node n k starts members → more ≡ members ++ states_at node n k
+      → next ≡ starts ++ (x ∷ []) → x ≡ length more → Grouped node n (k + 1) next more
   grouped_more G eM eS ex = record {
     size = let a = long_s in let b = G.size in omega arith;
-    few = let a = long_m in let b = G.few in let d = few_states node (length node) k in omega arith;
+    few = let a = long_m in let b = G.few in let d = few_states node n k in omega arith;
     last = new_start ∙ ex;
     rises = λ v h. ⊎_elim
         (λ (q : v ≡ k). subst (λ (w : ℕ). get_or next w 0 ≤ get_or next (w + 1) 0) (sym q)
@@ -73,14 +51,14 @@ module _ (node : List ℕ) (k x : ℕ) (starts next members more : List ℕ) (sm
         let b = old_start (v + 1) (omega arith) in let d = G.within v (omega arith) in let m = long_m in omega arith)
         (cases_eq v k);
     at = λ v h. ⊎_elim
-        (λ (q : v ≡ k). subst (λ (w : ℕ). take (get_or next (w + 1) 0 - get_or next w 0) (drop (get_or next w 0) more) ≡ states_at node (length node) w) (sym q)
+        (λ (q : v ≡ k). subst (λ (w : ℕ). take (get_or next (w + 1) 0 - get_or next w 0) (drop (get_or next w 0) more) ≡ states_at node n w) (sym q)
         (let a = old_start k (omega arith) in let b = new_start in let d = G.last in let m = long_m in
         ap (λ (zs : List ℕ). take (get_or next (k + 1) 0 - get_or next k 0) (drop (get_or next k 0) zs)) eM
-        ∙ part_added members (states_at node (length node) k) (get_or next k 0) (get_or next (k + 1) 0) (omega arith) (omega arith)))
+        ∙ part_added members (states_at node n k) (get_or next k 0) (get_or next (k + 1) 0) (omega arith) (omega arith)))
         (λ (q : v ≡ k → ⊥).
         ap₂ (λ (i j : ℕ). take (j - i) (drop i more)) (old_start v (omega arith)) (old_start (v + 1) (omega arith))
         ∙ ap (λ (zs : List ℕ). take (get_or starts (v + 1) 0 - get_or starts v 0) (drop (get_or starts v 0) zs)) eM
-        ∙ part_append members (states_at node (length node) k) (get_or starts v 0) (get_or starts (v + 1) 0) (G.rises v (omega arith)) (G.within v (omega arith))
+        ∙ part_append members (states_at node n k) (get_or starts v 0) (get_or starts (v + 1) 0) (G.rises v (omega arith)) (G.within v (omega arith))
         ∙ G.at v (omega arith))
         (cases_eq v k);
   }
@@ -88,8 +66,8 @@ module _ (node : List ℕ) (k x : ℕ) (starts next members more : List ℕ) (sm
       long_s : length next ≡ length starts + 1
       long_s = ap length eS ∙ length_push starts x
 
-      long_m : length more ≡ length members + length (states_at node (length node) k)
-      long_m = ap length eM ∙ length-append members (states_at node (length node) k)
+      long_m : length more ≡ length members + length (states_at node n k)
+      long_m = ap length eM ∙ length-append members (states_at node n k)
 
       new_start : get_or next (k + 1) 0 ≡ x
       new_start = ap (λ (zs : List ℕ). get_or zs (k + 1) 0) eS ∙ get_or_push starts x 0 (k + 1) G.size

@@ -1,5 +1,5 @@
 -- The book after a step, list by list.
-use Rattle.std.proofs.Common.{◌≡◌, ℕ, zero, suc, ◌^◌, ◌<◌, ◌≤◌, Bool, true, false, cond, not, ◌&&◌, List, [], ◌∷◌, map, length, get_or, set, ℤ, pos, ◌-ℤ◌, nat_abs, ◌≤ℤ◌, vec_items, sym, refl, ap, ◌∙◌, subst, arith}
+use Rattle.std.proofs.Common.{◌≡◌, ℕ, zero, suc, ◌^◌, ◌<◌, ◌≤◌, Bool, true, false, cond, not, ◌&&◌, List, [], ◌∷◌, map, length, get_or, set, ℤ, pos, ◌-ℤ◌, nat_abs, ◌≤ℤ◌, vec_items, vec_len, sym, refl, ap, ◌∙◌, subst, arith}
 use mathlib.Core.Path.{fun_ext}
 use lib.Signed.{lt_z}
 use Rattle.std.proofs.lemmas.List.FromFn.{fill_by_all}
@@ -13,8 +13,10 @@ use Rattle.rules.specs.Choosing.{at, at_z, smallest, tabulate}
 use Rattle.rules.specs.Setting.{Setting, setting_of}
 use Rattle.rules.specs.Book as rules
 use Rattle.rules.specs.Refine.{least_down, attains, halfway, shifted, held, next_vector, next_hi, next_lo, next_recorded, step}
+use Rattle.rules.specs.Fit.{Fit}
+use Rattle.rules.proofs.Steps.{step_fit}
 use Rattle.rules.specs.declared.exit.Exit.{Exit}
-use Rattle.book.specs.Books.{Kept}
+use Rattle.book.specs.Books.{book_of, Kept}
 use Rattle.book.specs.Inside.{vector_of}
 use Rattle.book.specs.declared.book.Book.{Book}
 use Rattle.book.proofs.Halves.{shifted_is}
@@ -79,15 +81,15 @@ module _ (T : Table) (L : Lawful T) (k : ℕ) (known : k < components T) (v : Li
         omega (arith, lin))
         (λ _. natural_is (get_or v s (pos 0)) (natural s l))
 
-    pub next_natural : (s : ℕ) → s < T.states → pos 0 ≤ℤ get_or new s (pos 0)
+    next_natural : (s : ℕ) → s < T.states → pos 0 ≤ℤ get_or new s (pos 0)
     next_natural s l = let e = next_at s l in omega (arith, lin)
 
-    pub next-vector : length new ≡ T.states → map nat_abs new ≡ tabulate T.states (next_vector (setting_of T) (vector_of v) k)
+    next-vector : length new ≡ T.states → map nat_abs new ≡ tabulate T.states (next_vector (setting_of T) (vector_of v) k)
     next-vector z =
         fill_by_all (next_vector (setting_of T) (vector_of v) k) (map nat_abs new) T.states 0 (length-map new nat_abs ∙ z)
         (λ s l. sym (vector_at new s) ∙ ap nat_abs (next_at s l))
 
-  pub next-recorded : (marks old new : List ℕ) (rises : Bool) (l : ℤ) → length new ≡ T.states
+  next-recorded : (marks old new : List ℕ) (rises : Bool) (l : ℤ) → length new ≡ T.states
       → ((s : ℕ) → s < T.states → states_of T k s ≡ true → at marks s ≡ attains (setting_of T) (vector_of v) s)
       → rises ≡ lt_z l (least_down (setting_of T) (vector_of v) k)
       → ((s : ℕ) → s < T.states → at new s ≡ cond (states_of T k s && rises) (at marks s) (at old s))
@@ -112,7 +114,7 @@ module _ (M : Setting) (k : ℕ) (v : List ℤ) (r : List ℕ) (lo hi x y : List
   step_with t = book_by (tabulate M.table.states (next_vector M t k)) (tabulate M.table.states (next_recorded M t k (at_z lo k) (at r)))
       (set lo k (next_lo M t k (at_z lo k))) (set hi k (next_hi M t k (at_z hi k)))
 
-  pub step_by : (v' r' : List ℕ) (lo' hi' : List ℤ) → v' ≡ tabulate M.table.states (next_vector M (vector_of v) k)
+  step_by : (v' r' : List ℕ) (lo' hi' : List ℤ) → v' ≡ tabulate M.table.states (next_vector M (vector_of v) k)
       → r' ≡ tabulate M.table.states (next_recorded M (vector_of v) k (at_z lo k) (at r))
       → lo' ≡ set lo k (next_lo M (vector_of v) k (at_z lo k)) → hi' ≡ set hi k (next_hi M (vector_of v) k (at_z hi k))
       → book_by v' r' lo' hi' ≡ step M k (book_by (map nat_abs v) r lo hi)
@@ -127,3 +129,52 @@ module _ (M : Setting) (k : ℕ) (v : List ℤ) (r : List ℕ) (lo hi x y : List
       ∙ ap (λ (l : List ℤ). book_by v'' r'' l hi') a
       ∙ ap (λ (l : List ℤ). book_by v'' r'' lo'' l) b
       ∙ ap step_with (same_vector v)
+
+-- the book after a step, by what its lists hold
+module _ (T : Table) (L : Lawful T) (k : ℕ) (known : k < components T) (b n : Book) (K : Kept T b)
+    (half : List ℤ) (marks : List ℕ) (least : ℤ) (h rises : Bool)
+    (is-half : (s : ℕ) → s < T.states → states_of T k s ≡ true → get_or half s (pos 0) ≡ halfway (setting_of T) (vector_of (vec_items b.vector)) s)
+    (is-mark : (s : ℕ) → s < T.states → states_of T k s ≡ true → at marks s ≡ attains (setting_of T) (vector_of (vec_items b.vector)) s)
+    (is-least : least ≡ smallest T.states (states_of T k) (halfway (setting_of T) (vector_of (vec_items b.vector))))
+    (is-held : h ≡ held (setting_of T) (vector_of (vec_items b.vector)) k)
+    (is-rising : rises ≡ lt_z (at_z (vec_items b.lo) k) (least_down (setting_of T) (vector_of (vec_items b.vector)) k))
+    (moved : (s : ℕ) → s < T.states → get_or (vec_items n.vector) s (pos 0)
+    ≡ cond (states_of T k s && not h) (get_or half s (pos 0) -ℤ least) (get_or (vec_items b.vector) s (pos 0)))
+    (written : (s : ℕ) → s < T.states → at (vec_items n.recorded) s ≡ cond (states_of T k s && rises) (at marks s) (at (vec_items b.recorded) s))
+    (vector-size : length (vec_items n.vector) ≡ T.states) (recorded-size : length (vec_items n.recorded) ≡ T.states)
+    (lo : vec_items n.lo ≡ set (vec_items b.lo) k (next_lo (setting_of T) (vector_of (vec_items b.vector)) k (at_z (vec_items b.lo) k)))
+    (hi : vec_items n.hi ≡ set (vec_items b.hi) k (next_hi (setting_of T) (vector_of (vec_items b.vector)) k (at_z (vec_items b.hi) k)))
+    (x : vec_items n.x ≡ vec_items b.x) (y : vec_items n.y ≡ vec_items b.y) (plan : vec_items n.plan ≡ vec_items b.plan)
+    (halfway-size : vec_len n.halfway ≡ T.states) (marks-size : vec_len n.marks ≡ T.states) where
+  next_book : book_of n ≡ step (setting_of T) k (book_of b)
+  next_book =
+      let v : List ℤ = vec_items b.vector in
+      let made : List ℤ → List ℤ → List Exit → rules.Book =
+      λ x y plan. record {
+        vector = map nat_abs (vec_items n.vector);
+        recorded = vec_items n.recorded;
+        lo = vec_items n.lo;
+        hi = vec_items n.hi;
+        x = x;
+        y = y;
+        plan = plan;
+      } in
+      ap (λ (l : List ℤ). made l (vec_items n.y) (vec_items n.plan)) x
+      ∙ ap (λ (l : List ℤ). made (vec_items b.x) l (vec_items n.plan)) y
+      ∙ ap (λ (l : List Exit). made (vec_items b.x) (vec_items b.y) l) plan
+      ∙ step_by (setting_of T) k v (vec_items b.recorded) (vec_items b.lo) (vec_items b.hi) (vec_items b.x) (vec_items b.y) (vec_items b.plan)
+      (map nat_abs (vec_items n.vector)) (vec_items n.recorded) (vec_items n.lo) (vec_items n.hi)
+      (next-vector T L k known v K.natural half least h (vec_items n.vector) is-half is-least is-held moved vector-size)
+      (next-recorded T L k known v K.natural marks (vec_items b.recorded) (vec_items n.recorded) rises (at_z (vec_items b.lo) k) recorded-size is-mark is-rising written)
+      lo hi
+
+  pub stepped : (book_of n ≡ step (setting_of T) k (book_of b)) × Kept T n
+  stepped = (
+    next_book,
+    record {
+      fit = subst (λ (A : rules.Book). Fit (setting_of T) A) (sym next_book) (step_fit (setting_of T) L k known (book_of b) K.fit);
+      natural = next_natural T L k known (vec_items b.vector) K.natural half least h (vec_items n.vector) is-half is-least is-held moved;
+      halfway = halfway-size;
+      marks = marks-size;
+    },
+  )

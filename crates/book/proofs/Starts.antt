@@ -1,7 +1,8 @@
 -- What the lists of the start hold.
-use Rattle.std.proofs.Common.{◌≡◌, ℕ, zero, suc, ◌+◌, ◌-◌, ◌<◌, Bool, true, false, eqb, List, ◌∷◌, map, length, get_or, take, drop, replicate, ℤ, pos, nat_abs, Some, None, vec_items, vec_len, filter, Option, sym, refl, ap, ◌∙◌, subst, ⊎_elim, arith}
+use Rattle.std.proofs.Common.{◌≡◌, ℕ, zero, suc, ◌+◌, ◌<◌, Bool, true, false, eqb, List, ◌∷◌, map, length, get_or, replicate, ℤ, pos, nat_abs, Some, None, vec_items, vec_len, filter, Option, sym, refl, ap, ◌∙◌, subst, ⊎_elim, arith}
 use Rattle.std.specs.List.{range_with_len}
-use Rattle.std.proofs.lemmas.List.{length-map, length-take, length-drop, get_or-take, get_or-drop, get_or-replicate}
+use Rattle.std.specs.Option.{unwrap_or}
+use Rattle.std.proofs.lemmas.List.{length-map, get_or-replicate}
 use Rattle.std.proofs.lemmas.Int.{ints}
 use Rattle.std.proofs.lemmas.Bool.{cases_Bool, both_ways, cond-true, cond-false}
 use Rattle.table.specs.Table.{Table}
@@ -16,28 +17,31 @@ use Rattle.rules.specs.Fit.{Fit}
 use Rattle.rules.specs.Setting.{setting_of, bottom, top}
 use Rattle.rules.specs.declared.exit.Exit.{Exit}
 use Rattle.rules.specs.declared.exit.Exit.TheVariants.{Stay, Leave}
-use Rattle.rules.proofs.Nodes.{in-component, inside_choice, lowest_state}
+use Rattle.rules.proofs.Nodes.{inside_component, inside_choice, lowest_state}
 use Rattle.rules.proofs.Start.{start_fit}
 use Rattle.book.specs.declared.book.Book.{Book}
-use Rattle.book.specs.declared.frame.Frame.{Frame}
 use Rattle.book.specs.Books.{book_of, Kept}
-use Rattle.book.specs.Frames.{table_of, start_at, Framed}
+use Rattle.book.specs.Facts.{node_states}
 use Rattle.book.specs.Starts.{first_inside, first_exit, Sized, Started}
-use Rattle.book.proofs.Lists.{first_is}
+use Rattle.book.proofs.Lists.{Found, first_is}
 
 -- the recorded choice
 module _ (T : Table) (L : Lawful T) (s : ℕ) where
-  pub inside_found : (c : ℕ) → c < T.choices s → inside T s c ≡ true → ((d : ℕ) → d < c → inside T s d ≡ false) → c ≡ first_inside T s
+  inside_found : (c : ℕ) → c < T.choices s → inside T s c ≡ true → ((d : ℕ) → d < c → inside T s d ≡ false) → c ≡ first_inside T s
   inside_found c l e h =
-      sym (cond-true (in_component T s) (first (T.choices s) (inside T s)) 0 (in-component T L s c e)
+      sym (cond-true (in_component T s) (first (T.choices s) (inside T s)) 0 (inside_component T L s c e)
       ∙ first_is (T.choices s) (inside T s) c l e h)
 
-  pub inside_missing : ((d : ℕ) → d < T.choices s → inside T s d ≡ false) → 0 ≡ first_inside T s
+  inside_missing : ((d : ℕ) → d < T.choices s → inside T s d ≡ false) → 0 ≡ first_inside T s
   inside_missing h =
       ⊎_elim
       (λ (e : in_component T s ≡ true). let x = inside_choice T L s e in absurd (both_ways (inside T s x.0) (h x.0 x.1) x.2))
       (λ (e : in_component T s ≡ false). sym (cond-false (in_component T s) (first (T.choices s) (inside T s)) 0 e))
       (cases_Bool (in_component T s))
+
+  pub inside_of : (r : Option ℕ) → Found (T.choices s) (inside T s) r → unwrap_or r 0 ≡ first_inside T s
+  inside_of None m = inside_missing (λ d l. m d (omega arith) l)
+  inside_of (Some c) m = inside_found c m.1 m.2 (λ d l. m.3 d (omega arith) l)
 
 -- the first number that passes is the first of those that are kept
 kept_head : (p : ℕ → Bool) (n a : ℕ) (q : ℕ → Bool) → ((i : ℕ) → q i ≡ p (a + i)) → first n q < n
@@ -61,26 +65,15 @@ kept_head p (suc n) a q h l =
     (w.0, cond-false (p a) (a ∷ rest) rest (here ∙ e) ∙ w.1 ∙ ap (λ (x : ℕ). x ∷ w.0) g))
     (cases_Bool (q 0))
 
-head_at : (xs : List ℕ) (i k x : ℕ) (ys : List ℕ) → take k (drop i xs) ≡ x ∷ ys → (i < length xs) × (get_or xs i 0 ≡ x)
-head_at xs i k x ys e =
-    let l = ap length e in
-    let a = length-take k (drop i xs) in
-    let b = length-drop i xs in
-    let m : 0 < k = omega arith in
-    let z : i ≡ i + 0 = omega arith in
-    (omega arith, ap (λ (j : ℕ). get_or xs j 0) z ∙ sym (get_or-drop i xs 0 0) ∙ sym (get_or-take k (drop i xs) 0 0 m) ∙ ap (λ (zs : List ℕ). get_or zs 0 0) e)
-
 -- the first member of a node is its lowest state
-pub first_member : (f : Frame) → Framed f → (v : ℕ) → v < nodes (table_of f)
-    → (start_at f v < length f.members.now) × (get_or f.members.now (start_at f v) 0 ≡ lowest_of (table_of f) v)
+pub first_member : (T : Table) → Lawful T → (v : ℕ) → v < nodes T → (ms : List ℕ) → ms ≡ node_states T v → (0 < length ms) × (get_or ms 0 0 ≡ lowest_of T v)
 unfolding lowest_of
-first_member f F v h =
-    let T : Table = table_of f in
+first_member T L v h ms all =
     let p : ℕ → Bool = λ s. eqb (node_of T s) v in
-    let w = kept_head p T.states 0 p (λ i. ap p (omega arith)) (lowest_state T F.lawful v h) in
+    let w = kept_head p T.states 0 p (λ i. ap p (omega arith)) (lowest_state T L v h) in
     let g : 0 + first T.states p ≡ first T.states p = omega arith in
-    let r = head_at f.members.now (start_at f v) (start_at f (v + 1) - start_at f v) (0 + first T.states p) w.0 (F.members_at v h ∙ w.1) in
-    (r.0, r.1 ∙ g)
+    let l = ap length (all ∙ w.1) in
+    (omega arith, ap (λ (zs : List ℕ). get_or zs 0 0) (all ∙ w.1) ∙ g)
 
 leaves : (o : Option ℕ) (l a : ℕ) → o ≡ None → a ≡ l → Leave a 0 ≡ elim o [ Some i ↦ Stay | None ↦ Leave l 0 ]
 leaves None l a e q = ap (λ (x : ℕ). Leave x 0) q

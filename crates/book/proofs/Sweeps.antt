@@ -95,21 +95,6 @@ pub written : {X Z : Type 0} (w : Vec X Z) (ws : List X) (i : ℕ) (a : X) → v
     → vec_items (with_items w ws) ≡ set (vec_items w) i a
 written {X} w ws i a n e = with_items_is w ws (ap (λ (l : List X). length l) e ∙ length-set (vec_items w) i a ∙ sym n) ∙ e
 
--- equal numbers compare alike
-pub same_four : (a b c d a' b' c' d' : ℤ) → a ≡ a' → b ≡ b' → c ≡ c' → d ≡ d' → (eq_z a b && eq_z c d) ≡ (eq_z a' b' && eq_z c' d')
-same_four a b c d a' b' c' d' p q r s =
-    ap (λ (z : ℤ). eq_z z b && eq_z c d) p ∙ ap (λ (z : ℤ). eq_z a' z && eq_z c d) q
-    ∙ ap (λ (z : ℤ). eq_z a' b' && eq_z z d) r ∙ ap (λ (z : ℤ). eq_z a' b' && eq_z c' z) s
-
--- what is quiet so far, after one more node
-pub no_longer : (q s r : Bool) → s ≡ false → r ≡ false → r ≡ (q && s)
-no_longer true s r e f = f ∙ sym e
-no_longer false s r e f = f
-
-pub as_before : (q s r : Bool) → s ≡ true → r ≡ q → r ≡ (q && s)
-as_before true s r e f = f ∙ sym e
-as_before false s r e f = f
-
 pub updates_none : (M : Setting) (A : Book) → A ≡ updates M 0 A
 unfolding updates
 updates_none M A = refl

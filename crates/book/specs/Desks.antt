@@ -1,5 +1,5 @@
 -- The table and the book that a desk holds, and what its calls answer.
-use Rattle.std.specs.Prelude.{◌≡◌, ℕ, ◌^◌, cond, List, ◌++◌, length, drop, ℤ, pos, neg_ℤ, ◌≤ℤ◌, nat_le, nat_lt}
+use Rattle.std.specs.Prelude.{◌≡◌, ℕ, ◌^◌, cond, List, ◌++◌, length, drop, ℤ, pos, nat_le, nat_lt}
 use Rattle.table.specs.Table.{Table}
 use Rattle.table.specs.Limits.{Lawful}
 use Rattle.components.specs.Nodes.{components}
@@ -11,6 +11,7 @@ use Rattle.rules.specs.Play.{play}
 use Rattle.rules.specs.Promises.{upper_at, lower_at}
 use Rattle.book.specs.Books.{book_of}
 use Rattle.book.specs.Layouts.{layout_table}
+use Rattle.book.specs.Rows.{Within}
 use Rattle.book.specs.declared.desk.Desk.{Desk}
 
 abbrev pub desk_table : Desk → Table
@@ -39,4 +40,4 @@ plan_in T B list = cond (nat_le T.states (length list)) (tabulate T.states (play
 
 -- small enough that the difference of two fits in 64 bits
 abbrev pub SmallBound : ℤ → Type 0
-SmallBound z = (neg_ℤ (pos (2 ^ 46)) ≤ℤ z) × (z ≤ℤ pos (2 ^ 46))
+SmallBound z = Within (2 ^ 46) z

@@ -1,53 +1,44 @@
--- The table that a layout holds.
-use Rattle.std.specs.Prelude.{◌≡◌, vec_items}
+-- The lists of a layout, and the table that they hold.
+use Rattle.std.specs.Prelude.{◌≡◌, ℕ, ◌+◌, Bool, List, vec_items, slice_index_or}
 use Rattle.table.specs.Table.{Table}
 use Rattle.table.specs.Limits.{Lawful}
-use Rattle.sources.specs.Rows.{list_table}
-use Rattle.book.specs.declared.frame.Frame.{Frame}
+use Rattle.sources.specs.Rows.{no_state, no_choice}
+use Rattle.sources.specs.declared.list.StateRow.{StateRow}
+use Rattle.sources.specs.declared.list.ChoiceRow.{ChoiceRow}
+use Rattle.model.specs.Held.{table_of}
 use Rattle.book.specs.declared.layout.Layout.{Layout}
-use Rattle.book.specs.Frames.{Framed}
-use Rattle.book.specs.Lists.{FlatLists}
+
+-- the rows of the table
+abbrev pub denominator_of : Layout → ℕ
+denominator_of l = l.model.rows.denominator
+
+abbrev pub state_rows : Layout → List StateRow
+state_rows l = vec_items l.model.rows.states
+
+abbrev pub choice_rows : Layout → List ChoiceRow
+choice_rows l = vec_items l.model.rows.choices
+
+abbrev pub branch_rows : Layout → List (ℕ × ℕ)
+branch_rows l = vec_items l.model.rows.branches
+
+-- each branch with the node of its successor, and of each choice whether it is inside
+abbrev pub link_rows : Layout → List (ℕ × ℕ)
+link_rows l = vec_items l.links
+
+abbrev pub inside_flags : Layout → List Bool
+inside_flags l = vec_items l.inside
 
 abbrev pub layout_table : Layout → Table
-layout_table l = list_table l.denominator (vec_items l.states) (vec_items l.choices) (vec_items l.branches)
+layout_table l = table_of l.model
+
+-- the row of a state, and that of a choice
+abbrev pub row_of : Layout → ℕ → StateRow
+row_of l s = slice_index_or (state_rows l) s no_state
+
+abbrev pub choice_of : Layout → ℕ → ℕ → ChoiceRow
+choice_of l s c = slice_index_or (choice_rows l) ((row_of l s).first + c) no_choice
 
 -- the layout of a lawful table: the table at every place of it
 pub record LaidOut (T : Table) (l : Layout) : Type 0 where
   pub lawful : Lawful T
   pub same : layout_table l ≡ T
-
--- the lists of a layout, and those that a frame lends
-abbrev pub lists_of : Layout → FlatLists
-lists_of l = record {
-  denominator = l.denominator;
-  states = vec_items l.states;
-  choices = vec_items l.choices;
-  branches = vec_items l.branches;
-  links = vec_items l.links;
-  inside = vec_items l.inside;
-  node = vec_items l.node;
-  members = vec_items l.members;
-  starts = vec_items l.starts;
-  component = vec_items l.component;
-  home = vec_items l.home;
-}
-
-abbrev pub frame_lists : Frame → FlatLists
-frame_lists f = record {
-  denominator = f.denominator;
-  states = f.states.now;
-  choices = f.choices.now;
-  branches = f.branches.now;
-  links = f.links.now;
-  inside = f.inside.now;
-  node = f.node.now;
-  members = f.members.now;
-  starts = f.starts.now;
-  component = f.component.now;
-  home = f.home.now;
-}
-
--- the frame lends the lists of the layout
-pub record FrameOf (l : Layout) (f : Frame) : Type 0 where
-  pub framed : Framed f
-  pub lists : frame_lists f ≡ lists_of l

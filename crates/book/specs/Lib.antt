@@ -1,15 +1,13 @@
 pub mod Rows
-pub mod Frames
 pub mod Books
 pub mod Inside
 pub mod Plays
 pub mod Sweeps
 pub mod Starts
-pub mod Copied
 pub mod Listed
 pub mod Grouped
 pub mod Facts
-pub mod Lists
 pub mod Layouts
+pub mod Vectors
 pub mod Keeps
 pub mod Desks

@@ -17,9 +17,9 @@ inside_into T marks mark s c = inside T s c && enters T (λ u. nat_eq (at marks 
 abbrev pub first_into : Table → List ℕ → ℕ → ℕ → ℕ
 first_into T marks mark s = first (T.choices s) (inside_into T marks mark s)
 
--- s is a state of node v without a mark, and one of its inside choices has a branch to a state with the mark k
-abbrev pub Fresh : Table → ℕ → ℕ → ℕ → List ℕ → Type 0
-Fresh T v k s marks = (node_of T s ≡ v) × (T.states < at marks s) × (first_into T marks k s < T.choices s)
+-- s is a state without a mark, and one of its inside choices has a branch to a state with the mark k
+abbrev pub Fresh : Table → ℕ → ℕ → List ℕ → Type 0
+Fresh T k s marks = (T.states < at marks s) × (first_into T marks k s < T.choices s)
 
 -- the marks of the states of node v are their distances to t
 abbrev pub Measured : Table → ℕ → ℕ → List ℕ → Type 0

@@ -1,13 +1,10 @@
 -- What the code of a sweep asks of the numbers, and what it answers of a node.
-use Rattle.std.specs.Prelude.{ℕ, ◌^◌, ◌<◌, Bool, ◌&&◌, List, length, ℤ, pos, neg_ℤ, ◌≤ℤ◌, Some, None, Option}
+use Rattle.std.specs.Prelude.{ℕ, Bool, ◌&&◌, List, ℤ, Some, None, Option}
 use Rattle.rules.specs.Choosing.{eq_z, at_z}
 use Rattle.rules.specs.Book.{Book}
 use Rattle.rules.specs.Candidates.{stay_candidate}
 use Rattle.rules.specs.declared.exit.Candidate.{Candidate}
-
--- no number is above 2^46 or below its opposite, so that no weighted sum overflows
-abbrev pub Small : List ℤ → Type 0
-Small values = (k : ℕ) → k < length values → (neg_ℤ (pos (2 ^ 46)) ≤ℤ at_z values k) × (at_z values k ≤ℤ pos (2 ^ 46))
+pub use Rattle.book.specs.Rows.{Small}
 
 -- neither x nor y of node v differs
 abbrev pub same_at : Book → Book → ℕ → Bool

@@ -1,7 +1,9 @@
-ghost use Rattle.std.specs.Prelude.{◌≡◌, ◌≤◌, ◌++◌, length};
+ghost use Rattle.std.specs.Prelude.{◌≡◌, ◌≤◌, ◌++◌, vec_len};
 ghost use Rattle.model.specs.Copy.{Copies};
+ghost use Rattle.decomposition.specs.Decomposed.{node_in};
 ghost use Rattle.book.specs.Grouped.{states_at, Grouped};
 
+use decomposition::Parts;
 use model::LoadFault;
 use std::alloc::Global;
 
@@ -13,29 +15,28 @@ pub(crate) struct Groups {
 }
 
 // Adds the states of a node.
-fn add_members(node: &[u32], v: u32, members: &mut Vec<u32>) -> Result<(), LoadFault>
-    requires { length node.now ≤ 256 }
-    ensures { Copies result (λ _. members.new.items ≡ members.old.items ++ states_at node.now (length node.now) v) }
+fn add_members(
+    parts: &Parts,
+    states: u32,
+    node: u32,
+    members: &mut Vec<u32>,
+) -> Result<(), LoadFault>
+    ensures { Copies result (λ _. members.new.items ≡ members.old.items ++ states_at (node_in parts.now) states node) }
 {
-    for s in 0..node.len() {
-        if node[s] == v {
-            members.push(s as u32)?;
-        }
-    }
+    members.extend((0..states).filter(|state| parts.node_of(*state) == node))?;
     Ok(())
 }
 
 // The states of each node, node by node.
-pub(crate) fn group_states(heap: Global, node: &[u32], nodes: u32) -> Result<Groups, LoadFault>
-    requires states { length node.now ≤ 256 }
-    requires nodes { nodes ≤ 256 }
-    ensures { Copies result (λ g. Grouped node.now nodes g.starts.items g.members.items) }
+pub(crate) fn group_states(heap: Global, parts: &Parts, states: u32) -> Result<Groups, LoadFault>
+    requires { states ≤ 256 }
+    ensures { Copies result (λ groups. Grouped (node_in parts.now) states (vec_len parts.now.component) groups.starts.items groups.members.items) }
 {
     let mut members = Vec::new(heap);
     let mut starts = Vec::new(heap);
     starts.push(0)?;
-    for v in 0..nodes {
-        add_members(node, v, &mut members)?;
+    for node in 0..parts.nodes() {
+        add_members(parts, states, node, &mut members)?;
         starts.push(members.len() as u32)?;
     }
     Ok(Groups { members, starts })

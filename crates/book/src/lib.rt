@@ -3,9 +3,7 @@
 
 mod best;
 mod book;
-mod copy;
 mod desk;
-mod frame;
 mod gain;
 mod groups;
 mod lay;
@@ -13,11 +11,13 @@ mod layout;
 mod leaving;
 mod listed;
 mod mean;
+mod places;
 mod play;
 mod refine;
 mod serve;
 mod start;
 mod sweep;
+mod vector;
 
 pub use book::Book;
 pub use desk::Desk;

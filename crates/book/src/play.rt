@@ -2,15 +2,12 @@ ghost use Rattle.std.specs.Prelude.{◌≡◌, ℕ, ◌+◌, ◌<◌, ◌≤◌,
 ghost use Rattle.components.specs.Below.{any};
 ghost use Rattle.components.specs.Nodes.{nodes, node_of};
 ghost use Rattle.rules.specs.Book.{exit_at};
-ghost use Rattle.rules.specs.Choosing.{at, tabulate};
-ghost use Rattle.rules.specs.Play.{play};
+ghost use Rattle.rules.specs.Choosing.{at};
 ghost use Rattle.book.specs.Rows.{place_at};
-ghost use Rattle.book.specs.Frames.{table_of, Framed};
-ghost use Rattle.book.specs.Books.{book_of, Kept};
+ghost use Rattle.book.specs.Layouts.{layout_table};
 ghost use Rattle.book.specs.Plays.{inside_into, first_into, Fresh, Measured, Ready, play_by, Named};
 
-use crate::book::Book;
-use crate::frame::Frame;
+use crate::layout::Layout;
 use rules::Exit;
 
 // Whether a branch of a run leads to a state with the mark.
@@ -19,82 +16,119 @@ fn enters(branches: &[(u32, u32)], first: u32, count: u32, marks: &[u32], mark: 
     requires inside { (b : ℕ) → b < count → place_at branches.now first b < length marks.now }
     ensures { result ≡ any count (λ b. nat_eq (at marks.now (place_at branches.now first b)) mark) }
 {
-    for b in 0..count {
-        let (place, _) = branches[first as usize + b as usize];
-        if marks[place as usize] == mark {
-            return true;
+    let from = first as usize;
+    let run = &branches[from..from + count as usize];
+    run.iter().any(|branch| marks[branch.0 as usize] == mark)
+}
+
+// A layout and marks of its states: how far each is from a target, or a number past all distances.
+#[derive(Clone, Copy)]
+struct Marked<'a> {
+    layout: &'a Layout,
+    marks: &'a [u32],
+    ghost room: { (layout_table layout.now).states ≤ length marks.now },
+}
+
+impl Marked<'_> {
+    // Whether a choice is inside and has a branch to a state with the mark.
+    fn inside_into(&self, state: u32, choice: u32, mark: u32) -> bool
+        requires known { state < (layout_table self.now.layout.now).states }
+        requires chosen { choice < (layout_table self.now.layout.now).choices state }
+        ensures { result ≡ inside_into (layout_table self.now.layout.now) self.now.marks.now mark state choice }
+    {
+        if self.layout.is_inside(state, choice) {
+            let row = self.layout.choice(state, choice);
+            enters(
+                &self.layout.model.rows.branches,
+                row.first,
+                row.count,
+                self.marks,
+                mark,
+            )
+        } else {
+            false
         }
     }
-    false
-}
 
-// Whether a choice is inside and has a branch to a state with the mark.
-fn inside_into(frame: &Frame, marks: &[u32], state: u32, choice: u32, mark: u32) -> bool
-    requires framed { Framed frame.now }
-    requires known { state < (table_of frame.now).states }
-    requires chosen { choice < (table_of frame.now).choices state }
-    requires room { (table_of frame.now).states ≤ length marks.now }
-    ensures { result ≡ inside_into (table_of frame.now) marks.now mark state choice }
-{
-    let place = frame.states[state as usize].first as usize + choice as usize;
-    if frame.inside[place] {
-        let row = frame.choices[place];
-        enters(frame.branches, row.first, row.count, marks, mark)
-    } else {
-        false
+    // The first inside choice of a state with a branch to a state with the mark, or how many choices the state has:
+    // the rules name that number too where there is none, so an Option would only be read back as it where a choice is played.
+    fn first_into(&self, state: u32, mark: u32) -> u32
+        requires known { state < (layout_table self.now.layout.now).states }
+        ensures { result ≡ first_into (layout_table self.now.layout.now) self.now.marks.now mark state }
+    {
+        let count = self.layout.choices(state);
+        (0..count)
+            .find(|choice| self.inside_into(state, *choice, mark))
+            .unwrap_or(count)
     }
-}
 
-// The first inside choice of a state with a branch to a state with the mark, or how many choices the state has.
-fn first_into(frame: &Frame, marks: &[u32], state: u32, mark: u32) -> u32
-    requires framed { Framed frame.now }
-    requires known { state < (table_of frame.now).states }
-    requires room { (table_of frame.now).states ≤ length marks.now }
-    ensures { result ≡ first_into (table_of frame.now) marks.now mark state }
-{
-    let count = frame.states[state as usize].count;
-    for c in 0..count {
-        if inside_into(frame, marks, state, c, mark) {
-            return c;
+    // Whether a state has no mark yet, and an inside choice with a branch to a state with the mark `round`.
+    fn fresh(&self, round: u32, state: u32) -> bool
+        requires known { state < (layout_table self.now.layout.now).states }
+        ensures found { result ≡ true → Fresh (layout_table self.now.layout.now) round state self.now.marks.now }
+        ensures missed { result ≡ false → Fresh (layout_table self.now.layout.now) round state self.now.marks.now → ⊥ }
+    {
+        if self.marks[state as usize] <= self.layout.states() {
+            return false;
+        }
+        self.first_into(state, round) < self.layout.choices(state)
+    }
+
+    // The choice that a state plays under the exit of its node.
+    fn played(&self, recorded: &[u32], exit: Exit, state: u32) -> u32
+        requires known { state < (layout_table self.now.layout.now).states }
+        requires recorded { (layout_table self.now.layout.now).states ≤ length recorded.now }
+        requires ready { Ready (layout_table self.now.layout.now) (node_of (layout_table self.now.layout.now) state) exit self.now.marks.now }
+        ensures { result ≡ play_by (layout_table self.now.layout.now) recorded.now exit state }
+    {
+        match exit {
+            Exit::Stay => recorded[state as usize],
+            Exit::Leave {
+                state: target,
+                choice,
+            } => {
+                if state == target {
+                    choice
+                } else {
+                    self.first_into(state, self.marks[state as usize] - 1)
+                }
+            }
         }
     }
-    count
-}
 
-// Whether a state of the node has no mark yet, and an inside choice with a branch to a state with the mark `round`.
-fn fresh(frame: &Frame, marks: &[u32], node: u32, round: u32, state: u32) -> bool
-    requires framed { Framed frame.now }
-    requires known { state < (table_of frame.now).states }
-    requires room { (table_of frame.now).states ≤ length marks.now }
-    ensures found { result ≡ true → Fresh (table_of frame.now) node round state marks.now }
-    ensures missed { result ≡ false → Fresh (table_of frame.now) node round state marks.now → ⊥ }
-{
-    let s = state as usize;
-    if frame.node[s] != node {
-        return false;
+    // Writes what each state of a node plays.
+    fn write_node(&self, recorded: &[u32], node: u32, exit: Exit, list: &mut [u32])
+        requires known { node < nodes (layout_table self.now.layout.now) }
+        requires recorded { (layout_table self.now.layout.now).states ≤ length recorded.now }
+        requires room { (layout_table self.now.layout.now).states ≤ length list.old }
+        requires ready { Ready (layout_table self.now.layout.now) node exit self.now.marks.now }
+        ensures written { (s : ℕ) → s < (layout_table self.now.layout.now).states → node_of (layout_table self.now.layout.now) s ≡ node → at list.new s ≡ play_by (layout_table self.now.layout.now) recorded.now exit s }
+        ensures others { (s : ℕ) → s < (layout_table self.now.layout.now).states → (node_of (layout_table self.now.layout.now) s ≢ node) → at list.new s ≡ at list.old s }
+        ensures rest { drop (layout_table self.now.layout.now).states list.new ≡ drop (layout_table self.now.layout.now).states list.old }
+    {
+        let members = self.layout.members_of(node);
+        for &state in members {
+            list[state as usize] = self.played(recorded, exit, state);
+        }
     }
-    if marks[s] as usize <= frame.node.len() {
-        return false;
-    }
-    first_into(frame, marks, state, round) < frame.states[s].count
 }
 
 // Marks each state of a node with its distance to the target, round by round until none is one step further.
-fn measure(frame: &Frame, marks: &mut [u32], node: u32, target: u32)
-    requires framed { Framed frame.now }
-    requires known { target < (table_of frame.now).states }
-    requires room { (table_of frame.now).states ≤ length marks.old }
-    ensures { Measured (table_of frame.now) node target marks.new }
+fn measure(layout: &Layout, marks: &mut [u32], node: u32, target: u32)
+    requires node { node < nodes (layout_table layout.now) }
+    requires known { target < (layout_table layout.now).states }
+    requires room { (layout_table layout.now).states ≤ length marks.old }
+    ensures { Measured (layout_table layout.now) node target marks.new }
 {
-    let states = frame.node.len() as u32;
-    for s in 0..states {
-        marks[s as usize] = states + 1;
-    }
+    let states = layout.states();
+    marks[..states as usize].fill(states + 1);
     marks[target as usize] = 0;
+    let members = layout.members_of(node);
     for round in 0..states {
         let mut further = false;
-        for state in 0..states {
-            if fresh(frame, marks, node, round, state) {
+        for &state in members {
+            let marked = Marked { layout, marks };
+            if marked.fresh(round, state) {
                 marks[state as usize] = round + 1;
                 further = true;
             }
@@ -105,83 +139,28 @@ fn measure(frame: &Frame, marks: &mut [u32], node: u32, target: u32)
     }
 }
 
-// The choice that a state plays under the exit of its node.
-fn played(frame: &Frame, recorded: &[u32], marks: &[u32], exit: Exit, state: u32) -> u32
-    requires framed { Framed frame.now }
-    requires known { state < (table_of frame.now).states }
-    requires recorded { (table_of frame.now).states ≤ length recorded.now }
-    requires room { (table_of frame.now).states ≤ length marks.now }
-    requires ready { Ready (table_of frame.now) (node_of (table_of frame.now) state) exit marks.now }
-    ensures { result ≡ play_by (table_of frame.now) recorded.now exit state }
-{
-    match exit {
-        Exit::Stay => recorded[state as usize],
-        Exit::Leave {
-            state: target,
-            choice,
-        } => {
-            if state == target {
-                choice
-            } else {
-                first_into(frame, marks, state, marks[state as usize] - 1)
-            }
-        }
-    }
-}
-
-// Writes what each state of a node plays.
-fn write_node(
-    frame: &Frame,
+// Writes what each state plays, node by node.
+pub(crate) fn write_nodes(
+    layout: &Layout,
     recorded: &[u32],
-    marks: &[u32],
-    node: u32,
-    exit: Exit,
+    plan: &[Exit],
+    marks: &mut [u32],
     list: &mut [u32],
 )
-    requires framed { Framed frame.now }
-    requires recorded { (table_of frame.now).states ≤ length recorded.now }
-    requires marks { (table_of frame.now).states ≤ length marks.now }
-    requires room { (table_of frame.now).states ≤ length list.old }
-    requires ready { Ready (table_of frame.now) node exit marks.now }
-    ensures written { (s : ℕ) → s < (table_of frame.now).states → node_of (table_of frame.now) s ≡ node → at list.new s ≡ play_by (table_of frame.now) recorded.now exit s }
-    ensures others { (s : ℕ) → s < (table_of frame.now).states → (node_of (table_of frame.now) s ≢ node) → at list.new s ≡ at list.old s }
-    ensures rest { drop (table_of frame.now).states list.new ≡ drop (table_of frame.now).states list.old }
+    requires recorded { (layout_table layout.now).states ≤ length recorded.now }
+    requires plan { length plan.now ≡ nodes (layout_table layout.now) }
+    requires named { Named (layout_table layout.now) plan.now }
+    requires marks { (layout_table layout.now).states ≤ length marks.old }
+    requires room { (layout_table layout.now).states ≤ length list.old }
+    ensures written { (s : ℕ) → s < (layout_table layout.now).states → at list.new s ≡ play_by (layout_table layout.now) recorded.now (exit_at plan.now (node_of (layout_table layout.now) s)) s }
+    ensures rest { drop (layout_table layout.now).states list.new ≡ drop (layout_table layout.now).states list.old }
 {
-    for s in 0..frame.node.len() {
-        if frame.node[s] == node {
-            list[s] = played(frame, recorded, marks, exit, s as u32);
+    for (v, exit) in plan.iter().enumerate() {
+        let node = v as u32;
+        if let Exit::Leave { state, .. } = *exit {
+            measure(layout, marks, node, state);
         }
+        let marked = Marked { layout, marks };
+        marked.write_node(recorded, node, *exit, list);
     }
-}
-
-// Writes what each state plays, node by node.
-fn write_nodes(frame: &Frame, recorded: &[u32], plan: &[Exit], marks: &mut [u32], list: &mut [u32])
-    requires framed { Framed frame.now }
-    requires recorded { (table_of frame.now).states ≤ length recorded.now }
-    requires plan { length plan.now ≡ nodes (table_of frame.now) }
-    requires named { Named (table_of frame.now) plan.now }
-    requires marks { (table_of frame.now).states ≤ length marks.old }
-    requires room { (table_of frame.now).states ≤ length list.old }
-    ensures written { (s : ℕ) → s < (table_of frame.now).states → at list.new s ≡ play_by (table_of frame.now) recorded.now (exit_at plan.now (node_of (table_of frame.now) s)) s }
-    ensures rest { drop (table_of frame.now).states list.new ≡ drop (table_of frame.now).states list.old }
-{
-    for v in 0..plan.len() {
-        let exit = plan[v];
-        if let Exit::Leave { state, .. } = exit {
-            measure(frame, marks, v as u32, state);
-        }
-        write_node(frame, recorded, marks, v as u32, exit, list);
-    }
-}
-
-// Writes the choice that each state plays, at its place; the working space changes, the book does not.
-pub(crate) fn write_plan(frame: &Frame, book: &mut Book, list: &mut [u32])
-    requires framed { Framed frame.now }
-    requires kept { Kept (table_of frame.now) book.old }
-    requires room { (table_of frame.now).states ≤ length list.old }
-    ensures list { list.new ≡ tabulate (table_of frame.now).states (play (table_of frame.now) (book_of book.old)) ++ drop (table_of frame.now).states list.old }
-    ensures book { book_of book.new ≡ book_of book.old }
-    ensures kept { Kept (table_of frame.now) book.new }
-{
-    write_nodes(frame, &book.recorded, &book.plan, &mut book.marks, list);
 }

@@ -11,10 +11,8 @@ ghost use Rattle.book.specs.Desks.{desk_table, desk_book, AtStart, steps_made, b
 
 use crate::desk::Desk;
 use crate::layout::Layout;
-use crate::play::write_plan;
-use crate::refine::refine_steps;
-use crate::start::{new_book, quoted, reset};
-use crate::sweep::sweep_times;
+use crate::play::write_nodes;
+use crate::start::{new_book, write_start};
 use model::LoadFault;
 use std::alloc::Global;
 use table::Source;
@@ -25,7 +23,7 @@ impl Desk {
         ensures { MatchResult result (AtStart (S.table source.now)) (RefusedLoad (S.table source.now)) }
     {
         let layout = Layout::of(heap, source)?;
-        let book = new_book(heap, &layout.frame())?;
+        let book = new_book(heap, &layout)?;
         Ok(Desk { layout, book })
     }
 
@@ -33,17 +31,18 @@ impl Desk {
     pub fn states(&self) -> u64
         ensures { result ≡ (desk_table self.now).states }
     {
-        self.layout.frame().node.len() as u64
+        u64::from(self.layout.states())
     }
 
     // The number of components.
     pub fn components(&self) -> u64
         ensures { result ≡ components_of (desk_table self.now) }
     {
-        self.layout.frame().home.len() as u64
+        u64::from(self.layout.components())
     }
 
-    // Makes refine steps in a component and answers how many; nothing changes where there is no such component.
+    // Makes refine steps in a component and answers how many; where there is no such component nothing changes and the answer is 0:
+    // the calls of a desk are total, and it is the engine that refuses.
     pub fn refine(&mut self, component: u64, steps: u64, width: u64) -> u64
         ensures made { result ≡ steps_made (desk_table self.old) (desk_book self.old) component steps width }
         ensures table { desk_table self.new ≡ desk_table self.old }
@@ -52,11 +51,10 @@ impl Desk {
         if component >= self.components() {
             return 0;
         }
-        let frame = self.layout.frame();
-        refine_steps(&frame, &mut self.book, component as u32, steps, width)
+        self.refine_steps(component as u32, steps, width)
     }
 
-    // lo and hi of a component; 0 where there is no such component.
+    // lo and hi of a component; 0 where there is no such component: the calls of a desk are total, and it is the engine that refuses.
     pub fn bounds(&self, component: u64) -> (i64, i64)
         ensures lo { result.0 ≡ at_z (desk_book self.now).lo component }
         ensures hi { result.1 ≡ at_z (desk_book self.now).hi component }
@@ -74,8 +72,7 @@ impl Desk {
         ensures table { desk_table self.new ≡ desk_table self.old }
         ensures book { desk_book self.new ≡ changed (setting_of (desk_table self.old)) (sweeping count) (desk_book self.old) }
     {
-        let frame = self.layout.frame();
-        sweep_times(&frame, &mut self.book, count)
+        self.sweep_times(count)
     }
 
     // Returns the book to its start.
@@ -83,11 +80,10 @@ impl Desk {
         ensures table { desk_table self.new ≡ desk_table self.old }
         ensures book { desk_book self.new ≡ changed (setting_of (desk_table self.old)) closing (desk_book self.old) }
     {
-        let frame = self.layout.frame();
-        reset(&frame, &mut self.book);
+        write_start(&self.layout, &mut self.book);
     }
 
-    // The lower and the upper bound of a state; 0 where there is no such state.
+    // The lower and the upper bound of a state; 0 where there is no such state: the calls of a desk are total, and it is the engine that refuses.
     pub fn quote(&self, state: u64) -> (i64, i64)
         ensures bounds { result ≡ bounds_at (desk_table self.now) (desk_book self.now) state }
         ensures small { SmallBound result.0 × SmallBound result.1 }
@@ -95,8 +91,7 @@ impl Desk {
         if state >= self.states() {
             return (0, 0);
         }
-        let frame = self.layout.frame();
-        quoted(&frame, &self.book, state as u32)
+        self.quoted(state as u32)
     }
 
     // Writes the choice of each state to the front of the list and leaves the rest; a list that is too short stays as it is.
@@ -108,7 +103,12 @@ impl Desk {
         if (list.len() as u64) < self.states() {
             return;
         }
-        let frame = self.layout.frame();
-        write_plan(&frame, &mut self.book, list);
+        write_nodes(
+            &self.layout,
+            &self.book.recorded,
+            &self.book.plan,
+            &mut self.book.marks,
+            list,
+        );
     }
 }

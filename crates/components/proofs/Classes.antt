@@ -126,10 +126,10 @@ module _ (T : Table) (law : Lawful T) (A : Choices) (G : Greatest T A) where
   added : ℕ → ℕ → Choices
   added s c x d = A x d || (eqb x s && eqb d c)
 
-  pub choice-in : (R : States) → Class T A R → (s c : ℕ) → Choice T s c → R s ≡ true
+  pub choice_state : (R : States) → Class T A R → (s c : ℕ) → Choice T s c → R s ≡ true
       → ((b : ℕ) → b < T.branches s c → R (successor T s c b) ≡ true) → A s c ≡ true
   unfolding added
-  choice-in R k s c p e all =
+  choice_state R k s c p e all =
       G.greatest (added s c) reversible s c p
       (or_right (A s c) (eqb s s && eqb c c) (and_from (eqb s s) (eqb c c) (eq-eqb s s refl) (eq-eqb c c refl)))
     where

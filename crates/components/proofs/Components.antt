@@ -8,7 +8,7 @@ use Rattle.components.specs.Inside.{inside}
 use Rattle.components.specs.Nodes.{in_component, heads, components, component_of, states_of, choices_of}
 use Rattle.components.specs.Law.{SameStates, SameChoices, Lowest, ComponentLaw, InsideLaw}
 use Rattle.components.proofs.Reach.{reach_sound, reach_all}
-use Rattle.components.proofs.Classes.{Class, class_closed, class_maximal, only_classes, choice-in}
+use Rattle.components.proofs.Classes.{Class, class_closed, class_maximal, only_classes, choice_state}
 use Rattle.components.proofs.Numbering.{acts_of, of_acts, G, lowest_same, same_reach, num_same, num_keep, num_bound, num_lowest, num_rising, component_numbers}
 
 module _ (T : Table) (law : Lawful T) where
@@ -103,7 +103,7 @@ module _ (T : Table) (law : Lawful T) where
             e,
             λ b h. class_closed T law (inside T) (G T law) (component_class i s p.state e) s c b p a h e,
           )),
-      (λ x. choice-in T law (inside T) (G T law) (states_of T x.0) (class_at x.0 x.1) s c p x.2 x.3),
+      (λ x. choice_state T law (inside T) (G T law) (states_of T x.0) (class_at x.0 x.1) s c p x.2 x.3),
     );
     acts = λ i s h e.
         let a = acts_of T s (and_parts (in_component T s) (eqb (component_of T s) i) e).0 in

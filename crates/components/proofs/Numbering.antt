@@ -10,14 +10,14 @@ use Rattle.components.specs.Nodes.{in_component, lowest, is_lowest, heads, node_
 use Rattle.components.specs.Law.{Lowest}
 use Rattle.components.proofs.Below.{any_some, any_from, first_le, first_at, count_past, count_order, count_same, count_onto}
 use Rattle.components.proofs.Reach.{trans, reach_sound, reach_in, reach_all}
-use Rattle.components.proofs.Reversible.{Acts, acts_before, back, Greatest, inside-in, inside_greatest}
+use Rattle.components.proofs.Reversible.{Acts, acts_before, back, Greatest, inside_exists, inside_greatest}
 
 -- a state with an inside choice
 pub acts_of : (T : Table) (s : ℕ) → in_component T s ≡ true → Acts T (inside T) s
 unfolding in_component
 acts_of T s e =
     let x = any_some (T.choices s) (inside T s) e in
-    record { choice = x.0; of = inside-in T s x.0 x.2; chosen = x.2 }
+    record { choice = x.0; of = inside_exists T s x.0 x.2; chosen = x.2 }
 
 pub of_acts : (T : Table) (s : ℕ) → Acts T (inside T) s → in_component T s ≡ true
 unfolding in_component

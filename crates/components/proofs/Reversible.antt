@@ -117,9 +117,9 @@ passes_in T zero s c e =
 passes_in T (suc k) s c e = pass_in T (passes T k) s c e
 
 -- no choice is inside that the table does not have
-pub inside-in : (T : Table) (s c : ℕ) → inside T s c ≡ true → Choice T s c
+pub inside_exists : (T : Table) (s c : ℕ) → inside T s c ≡ true → Choice T s c
 unfolding inside
-inside-in T s c e = passes_in T (sum_n T.states T.choices) s c e
+inside_exists T s c e = passes_in T (sum_n T.states T.choices) s c e
 
 module _ (T : Table) (law : Lawful T) where
   keeps : (k : ℕ) → Keeps T (passes T k) (passes T (suc k))

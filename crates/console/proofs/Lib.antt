@@ -1,4 +1,4 @@
-pub mod Runs
+pub mod LineEnds
 pub mod Figures
 pub mod Fields
 pub mod Spelling

@@ -1,7 +1,9 @@
-ghost use Rattle.std.specs.Prelude.{◌≡◌, ◌+◌, ◌≤◌, true, length, drop};
-ghost use Rattle.std.specs.Str.Parse.{digits_value};
+ghost use Rattle.std.specs.Prelude.{◌≡◌, true};
+ghost use Rattle.std.specs.List.{prefix_len};
+ghost use Rattle.std.specs.Option.{option_map};
+ghost use Rattle.std.specs.Char.{is_ascii_digit};
 ghost use Rattle.std.specs.Str.{all_ascii_digits};
-ghost use Rattle.console.specs.Commands.{digit_run, argument_at, ended_at, refine_in, sweep_in, quote_in, command_by, command_of};
+ghost use Rattle.console.specs.Commands.{number_of, argument_in, ended_in, refine_in, sweep_in, quote_in, command_by, command_of};
 ghost use Rattle.console.specs.Spelling.{CommandLaw};
 
 // What a command line asks of the engine.
@@ -30,35 +32,32 @@ pub fn read_command(line: &[u8]) -> Option<Command>
     ensures reads { result ≡ command_of line.now }
     ensures law { CommandLaw line.now }
 {
-    if line.is_empty() {
-        return None;
-    }
-    by_letter(char::from(line[0]), line)
+    let (letter, text) = line.split_first()?;
+    by_letter(char::from(*letter), text)
 }
 
-// The command of a line that begins with this letter.
-fn by_letter(letter: char, line: &[u8]) -> Option<Command>
-    ensures { result ≡ command_by letter line.now }
+// The command of a line that begins with this letter; the text follows it.
+fn by_letter(letter: char, text: &[u8]) -> Option<Command>
+    ensures { result ≡ command_by letter text.now }
 {
     match letter {
-        'R' => refine(line),
-        'S' => sweep(line),
-        'Q' => quote(line),
-        'P' => ended(line, 1, Command::Plan),
-        'C' => ended(line, 1, Command::Close),
+        'R' => refine(text),
+        'S' => sweep(text),
+        'Q' => quote(text),
+        'P' => ended(text, Command::Plan),
+        'C' => ended(text, Command::Close),
         _ => None,
     }
 }
 
-fn refine(line: &[u8]) -> Option<Command>
-    ensures { result ≡ refine_in line.now }
+fn refine(text: &[u8]) -> Option<Command>
+    ensures { result ≡ refine_in text.now }
 {
-    let (component, component_end) = argument(line, 1)?;
-    let (steps, steps_end) = argument(line, component_end)?;
-    let (width, width_end) = argument(line, steps_end)?;
+    let (component, text) = argument(text)?;
+    let (steps, text) = argument(text)?;
+    let (width, text) = argument(text)?;
     ended(
-        line,
-        width_end,
+        text,
         Command::Refine {
             component,
             steps,
@@ -67,63 +66,51 @@ fn refine(line: &[u8]) -> Option<Command>
     )
 }
 
-fn sweep(line: &[u8]) -> Option<Command>
-    ensures { result ≡ sweep_in line.now }
+fn sweep(text: &[u8]) -> Option<Command>
+    ensures { result ≡ sweep_in text.now }
 {
-    let (count, end) = argument(line, 1)?;
-    ended(line, end, Command::Sweep { count })
+    let (count, text) = argument(text)?;
+    ended(text, Command::Sweep { count })
 }
 
-fn quote(line: &[u8]) -> Option<Command>
-    ensures { result ≡ quote_in line.now }
+fn quote(text: &[u8]) -> Option<Command>
+    ensures { result ≡ quote_in text.now }
 {
-    let (state, state_end) = argument(line, 1)?;
-    let (width, width_end) = argument(line, state_end)?;
-    ended(line, width_end, Command::Quote { state, width })
+    let (state, text) = argument(text)?;
+    let (width, text) = argument(text)?;
+    ended(text, Command::Quote { state, width })
 }
 
-// The command, if the line ends here.
-fn ended(line: &[u8], at: usize, command: Command) -> Option<Command>
-    ensures { result ≡ ended_at line.now at command }
+// The command, if nothing follows.
+fn ended(text: &[u8], command: Command) -> Option<Command>
+    ensures { result ≡ ended_in text.now command }
 {
-    if at < line.len() { None } else { Some(command) }
+    text.is_empty().then_some(command)
 }
 
-// The number after the blank at `from`, and where its digits end.
-fn argument(line: &[u8], from: usize) -> Option<(u64, usize)>
-    ensures { result ≡ argument_at line.now from }
+// The number after the blank at the front, and what follows its digits.
+fn argument(text: &[u8]) -> Option<(u64, &[u8])>
+    ensures { option_map (λ a. (a.0, a.1.now)) result ≡ argument_in text.now }
 {
-    if from >= line.len() || line[from] != b' ' {
+    let text = text.strip_prefix(b" ")?;
+    let (digits, rest) = text.split_at(digit_count(text));
+    Some((number(digits)?, rest))
+}
+
+// How many digits stand at the front.
+fn digit_count(text: &[u8]) -> usize
+    ensures { result ≡ prefix_len is_ascii_digit text.now }
+{
+    text.iter().take_while(|byte| byte.is_ascii_digit()).count()
+}
+
+// The number that the digits write, if they are 1 to 18.
+fn number(digits: &[u8]) -> Option<u64>
+    requires { all_ascii_digits digits.now ≡ true }
+    ensures { result ≡ number_of digits.now }
+{
+    if digits.len() > MOST_DIGITS {
         return None;
     }
-    let first = from + 1;
-    let end = digits_end(line, first);
-    if end == first || end - first > MOST_DIGITS {
-        return None;
-    }
-    Some((number(&line[first..end]), end))
-}
-
-// Where the digits end that stand from `from` on.
-fn digits_end(line: &[u8], from: usize) -> usize
-    ensures { result ≡ from + length (digit_run (drop from line.now)) }
-{
-    let mut end = from;
-    while end < line.len() && line[end].is_ascii_digit() {
-        end += 1;
-    }
-    end
-}
-
-// The number that the digits write.
-fn number(digits: &[u8]) -> u64
-    requires digits { all_ascii_digits digits.now ≡ true }
-    requires few { length digits.now ≤ 18 }
-    ensures { result ≡ digits_value 10 digits.now }
-{
-    let mut number: u64 = 0;
-    for digit in digits {
-        number = number * 10 + u64::from(*digit - b'0');
-    }
-    number
+    str::from_utf8(digits).ok()?.parse().ok()
 }

@@ -9,4 +9,4 @@ pub use answer::{
     close_line, loaded_line, plan_line, quote_line, refine_line, refusal_line, sweep_line,
 };
 pub use command::{Command, read_command};
-pub use input::next_line;
+pub use input::{Lines, next_line};

@@ -1,4 +1,4 @@
-use console::{next_line, read_command};
+use console::{Lines, next_line, read_command};
 
 #[test]
 fn an_input_ends(rt: HostRuntime) {
@@ -26,17 +26,8 @@ fn a_line_feed_alone_ends_an_empty_line(rt: HostRuntime) {
 
 // How many lines an input has, and how many of them are commands.
 fn counted(input: &[u8]) -> (usize, usize) {
-    let mut lines = 0;
-    let mut commands = 0;
-    let mut from = 0;
-    while let Some((end, next)) = next_line(input, from) {
-        lines += 1;
-        if read_command(&input[from..end]).is_some() {
-            commands += 1;
-        }
-        from = next;
-    }
-    (lines, commands)
+    let commands = Lines::new(input).filter(|line| read_command(line).is_some());
+    (Lines::new(input).count(), commands.count())
 }
 
 #[test]

@@ -1,5 +1,5 @@
-use crate::day::print_refusal;
-use engine::{Answer, Call, replay};
+use crate::day::print_answer;
+use engine::{Call, replay};
 use sources::Band;
 use std::io;
 
@@ -26,30 +26,8 @@ pub(crate) fn print_days(rt: &HostRuntime) -> io::Result<()> {
     let Ok((_engine, answers)) = replay(rt.alloc(), &Band::new(2, 5, 40), &calls) else {
         return println!(rt; "   no memory");
     };
-    for answer in answers.iter() {
+    for answer in &answers {
         print_answer(rt, answer)?;
     }
     Ok(())
-}
-
-fn print_answer(rt: &HostRuntime, answer: &Answer) -> io::Result<()> {
-    match answer {
-        Answer::Refused(refusal) => print_refusal(rt, *refusal),
-        Answer::Done => println!(rt; "   accepted"),
-        Answer::Stands { states, components } => println!(rt;
-            "   standing: {states} states, {components} components"
-        ),
-        Answer::Refined { made, lo, hi } => println!(rt; "   {made} steps, {lo} to {hi}"),
-        Answer::Swept { made } => println!(rt; "   {made} sweeps"),
-        Answer::Quoted { lower, upper, mark } => println!(rt; "   {lower} to {upper}, mark {mark}"),
-        Answer::Planned { list } => print_choices(rt, list),
-    }
-}
-
-pub(crate) fn print_choices(rt: &HostRuntime, list: &[u32]) -> io::Result<()> {
-    print!(rt; "   plan:")?;
-    for choice in list.iter() {
-        print!(rt; " {choice}")?;
-    }
-    println!(rt; "")
 }

@@ -3,7 +3,7 @@
 
 mod again;
 mod day;
-mod export;
+mod words;
 
 use again::print_days;
 use day::{print_done, print_plan, print_quote, print_refine, print_standing, print_sweep};
@@ -13,7 +13,7 @@ use std::io;
 
 fn main(rt: HostRuntime) -> io::Result<()> {
     let band = Band::new(2, 5, 40);
-    let list = List::new(4, &export::STATES, &export::CHOICES, &export::BRANCHES);
+    let list = samples::export();
     print_day(&rt, &band, &list)?;
     println!(rt;
         "4. Three days as one list of calls: bounds of the band, a band of no states, a narrower band."

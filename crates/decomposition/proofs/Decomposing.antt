@@ -1,9 +1,10 @@
 -- What a decomposition starts from, and what it comes to.
-use Rattle.std.proofs.Common.{◌≡◌, ℕ, ◌+◌, ◌*◌, ◌≤◌, Bool, true, false, ◌&&◌, List, [], length, get_or, replicate, vec_items, vec_len, Option, sym, ap, ◌∙◌, subst, arith}
-use Rattle.std.proofs.lemmas.List.{get_or-replicate}
+use Rattle.std.proofs.Common.{◌≡◌, ℕ, ◌+◌, ◌*◌, ◌≤◌, Bool, true, false, ◌&&◌, List, [], length, get_or, take, replicate, vec_items, vec_len, Option, sym, ap, ◌∙◌, subst, arith}
+use Rattle.std.proofs.lemmas.List.{get_or-replicate, get_or-take}
 use Rattle.std.proofs.lemmas.Bool.{lt-ltb}
 use Rattle.table.specs.Table.{Table}
 use Rattle.table.specs.Limits.{Lawful}
+use Rattle.components.specs.EndComponent.{Choices}
 use Rattle.components.specs.Inside.{inside}
 use Rattle.components.specs.Nodes.{is_lowest, nodes, components}
 use Rattle.components.proofs.Below.{count_most}
@@ -15,12 +16,21 @@ use Rattle.decomposition.specs.Decomposed.{Decomposed}
 use Rattle.decomposition.specs.declared.parts.Parts.{Parts}
 use Rattle.decomposition.proofs.Numbers.{none_numbered}
 
-pub all_set : (T : Table) → Lawful T → (flags : List Bool) (n : ℕ) → n ≡ T.states → flags ≡ replicate (16 * n) true → AllSet T flags
-all_set T law flags n q e s c p =
+pub all_set : (T : Table) → Lawful T → (flags : List Bool) → flags ≡ replicate 4096 true → AllSet T flags
+all_set T law flags e s c p =
+    let few = (law.choices s p.state).1 in
+    let most = law.states.1 in
+    let h = p.state in
+    let l = p.choice in
+    ap (λ (xs : List Bool). get_or xs (16 * s + c) false) e ∙ get_or-replicate 4096 (16 * s + c) true false (omega arith)
+
+-- the flags of a table's own states
+pub own_flags : (T : Table) → Lawful T → (A : Choices) (flags own : List Bool) → Flagged T flags A → own ≡ take (16 * T.states) flags → Flagged T own A
+own_flags T law A flags own f e s c p =
     let few = (law.choices s p.state).1 in
     let h = p.state in
     let l = p.choice in
-    ap (λ (xs : List Bool). get_or xs (16 * s + c) false) e ∙ get_or-replicate (16 * n) (16 * s + c) true false (omega arith)
+    ap (λ (xs : List Bool). get_or xs (16 * s + c) false) e ∙ get_or-take (16 * T.states) flags (16 * s + c) false (omega arith) ∙ f s c p
 
 pub empty_numbered : (T : Table) (node : List ℕ) (component : List (Option ℕ)) → node ≡ [] → component ≡ [] → Numbered T 0 node component 0
 empty_numbered T node component e f =

@@ -1,5 +1,5 @@
 -- The steps of a pass over flags, and that passes come to the inside choices.
-use Rattle.std.proofs.Common.{◌≡◌, ℕ, zero, suc, ◌+◌, ◌*◌, ◌<◌, ◌≤◌, Bool, true, false, ◌&&◌, ◌⊎◌, List, length, set, sym, refl, ap, ◌∙◌, ap₂, inl, inr, ⊎_elim, add-one, arith}
+use Rattle.std.proofs.Common.{◌≡◌, ℕ, zero, suc, ◌+◌, ◌*◌, ◌<◌, ◌≤◌, Bool, true, false, ◌&&◌, ◌||◌, List, length, set, sym, refl, ap, ◌∙◌, subst, ap₂, inl, inr, ⊎_elim, add-one, arith}
 use Rattle.std.proofs.lemmas.List.{get_or-set_same, get_or-set_other}
 use Rattle.std.proofs.lemmas.Bool.{cases_Bool, cases_eq, and_left, and_right, and_from, both_ways}
 use Rattle.table.specs.Sums.{sum_n}
@@ -45,25 +45,19 @@ choice_stays T words s c flags e f = record {
   still = λ _. refl;
 }
 
-pub choice_goes : (T : Table) (words : List ℕ) (s c : ℕ) (flags : List Bool) → 16 * s + c < length flags → leads_back T words s c ≡ false
-    → DroppedChoice T words s c flags (set flags (16 * s + c) false) true
-choice_goes T words s c flags l f = record {
+pub choice_goes : (T : Table) (words : List ℕ) (s c : ℕ) (flags new : List Bool) → 16 * s + c < length flags → leads_back T words s c ≡ false
+    → new ≡ set flags (16 * s + c) false → DroppedChoice T words s c flags new true
+choice_goes T words s c flags new l f e = subst (λ xs. DroppedChoice T words s c flags xs true) (sym e) (record {
   here = get_or-set_same flags (16 * s + c) false false l ∙ sym (and_right (flag_at flags s c) (leads_back T words s c) f);
   other = λ i h. get_or-set_other flags (16 * s + c) i false false h;
-  still = λ e. absurd (both_ways true e refl);
-}
+  still = λ q. absurd (both_ways true q refl);
+})
 
--- whether something changed so far and then
-abbrev pub Changed : Bool → Bool → Bool → Type 0
-Changed before then after = ((then ≡ true) × (after ≡ true)) ⊎ ((then ≡ false) × (after ≡ before))
-
-still_both : {before then after : Bool} {old mid new : List Bool} → Changed before then after
-    → (before ≡ false → mid ≡ old) → (then ≡ false → new ≡ mid) → after ≡ false → new ≡ old
-still_both {before} {then} {after} w f g e =
-    ⊎_elim
-    (λ (x : (then ≡ true) × (after ≡ true)). absurd (both_ways after e x.1))
-    (λ (x : (then ≡ false) × (after ≡ before)). g x.0 ∙ f (sym x.1 ∙ e))
-    w
+-- nothing changed in two steps
+still_both : {before then : Bool} {old mid new : List Bool} → (before ≡ false → mid ≡ old) → (then ≡ false → new ≡ mid)
+    → (before || then) ≡ false → new ≡ old
+still_both {before = true} f g e = absurd (both_ways true e refl)
+still_both {before = false} f g e = g e ∙ f refl
 
 pub state_none : (T : Table) (words : List ℕ) (s : ℕ) (flags : List Bool) → DroppedState T words s 0 flags flags false
 state_none T words s flags = record {
@@ -72,10 +66,10 @@ state_none T words s flags = record {
   still = λ _. refl;
 }
 
-pub state_more : {T : Table} {words : List ℕ} {s k : ℕ} {old mid new : List Bool} {before then after : Bool}
-    → DroppedState T words s k old mid before → DroppedChoice T words s k mid new then → Changed before then after
-    → DroppedState T words s (k + 1) old new after
-state_more {T} {words} {s} {k} {old} {mid} {new} d e w = record {
+pub state_more : {T : Table} {words : List ℕ} {s k : ℕ} {old mid new : List Bool} {before then : Bool}
+    → DroppedState T words s k old mid before → DroppedChoice T words s k mid new then
+    → DroppedState T words s (k + 1) old new (before || then)
+state_more {T} {words} {s} {k} {old} {mid} {new} {before} d e = record {
   here = λ c h. ⊎_elim
       (λ (q : c ≡ k).
       rw q (e.here ∙ ap (λ (x : Bool). x && leads_back T words s k) (d.other (16 * s + k) (inr (omega arith)))))
@@ -84,7 +78,7 @@ state_more {T} {words} {s} {k} {old} {mid} {new} d e w = record {
   other = λ i h. ⊎_elim
       (λ (l : i < 16 * s). e.other i (λ z. omega arith) ∙ d.other i (inl l))
       (λ (l : 16 * s + (k + 1) ≤ i). e.other i (λ z. omega arith) ∙ d.other i (inr (omega arith))) h;
-  still = still_both w d.still e.still;
+  still = still_both {before = before} d.still e.still;
 }
 
 pub all_none : (T : Table) (words : List ℕ) (flags : List Bool) → DroppedAll T words 0 flags flags false
@@ -94,10 +88,10 @@ all_none T words flags = record {
   still = λ _. refl;
 }
 
-pub all_more : {T : Table} {words : List ℕ} {k : ℕ} {old mid new : List Bool} {before then after : Bool} → Lawful T → k < T.states
-    → DroppedAll T words k old mid before → DroppedState T words k (T.choices k) mid new then → Changed before then after
-    → DroppedAll T words (k + 1) old new after
-all_more {T} {words} {k} {old} {mid} {new} law hk d e w = record {
+pub all_more : {T : Table} {words : List ℕ} {k : ℕ} {old mid new : List Bool} {before then : Bool} → Lawful T → k < T.states
+    → DroppedAll T words k old mid before → DroppedState T words k (T.choices k) mid new then
+    → DroppedAll T words (k + 1) old new (before || then)
+all_more {T} {words} {k} {old} {mid} {new} {before} law hk d e = record {
   here = λ s c h l. ⊎_elim
       (λ (q : s ≡ k).
       let l' : c < T.choices k = rw q at l in
@@ -109,7 +103,7 @@ all_more {T} {words} {k} {old} {mid} {new} law hk d e w = record {
   other = λ i h.
       let few = (law.choices k hk).1 in
       e.other i (inr (omega arith)) ∙ d.other i (omega arith);
-  still = still_both w d.still e.still;
+  still = still_both {before = before} d.still e.still;
 }
 
 -- a pass by marks is a pass

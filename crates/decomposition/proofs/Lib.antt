@@ -2,4 +2,5 @@ pub mod Words
 pub mod Marked
 pub mod Drops
 pub mod Numbers
+pub mod Searches
 pub mod Decomposing

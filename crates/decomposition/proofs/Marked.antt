@@ -1,7 +1,7 @@
 -- Bits that are set in a row, one after another, and Warshall's rule on bits.
-use Rattle.std.proofs.Common.{◌≡◌, ℕ, zero, suc, ◌+◌, ◌*◌, ◌/◌, ◌%◌, ◌^◌, ◌<◌, ◌≤◌, Bool, true, false, ◌&&◌, ◌||◌, eqb, List, length, get_or, sym, refl, ap, ◌∙◌, ap₂, ⊎_elim, add-one, arith}
+use Rattle.std.proofs.Common.{◌≡◌, ℕ, zero, suc, ◌+◌, ◌*◌, ◌/◌, ◌%◌, ◌^◌, ◌<◌, ◌≤◌, Bool, true, false, ◌&&◌, ◌||◌, eqb, List, get_or, replicate, sym, refl, ap, ◌∙◌, ap₂, ⊎_elim, add-one, arith}
 use native.Mathlib.Nat.{zero-div}
-use Rattle.std.proofs.lemmas.List.{get_or_past}
+use Rattle.std.proofs.lemmas.List.{get_or_past, get_or-replicate, length-replicate}
 use Rattle.std.proofs.lemmas.Bool.{cases_eq, cases_lt, eq-eqb, ne_eqb}
 use Rattle.table.specs.Table.{Table, successor}
 use Rattle.components.specs.Below.{any, every}
@@ -149,10 +149,15 @@ module _ (T : Table) (A : Choices) (start : List ℕ) (e : Shows T.states start 
   unfolding reach
   reach_shown words w s t hs ht = w s t hs ht ∙ closure_via T.states (omega arith) s t hs ht
 
--- cleared words have no bit
-pub cleared : (words : List ℕ) → ((k : ℕ) → k < length words → get_or words k 0 ≡ 0) → (r t : ℕ) → bit_at words r t ≡ false
+-- words that are all 0 have no bit
+zeros : (n k : ℕ) → ◌≡◌ {A = ℕ} (get_or (replicate n 0) k 0) 0
+zeros n k =
+    ⊎_elim (λ (l : k < n). get_or-replicate n k 0 0 l)
+    (λ (l : n ≤ k). let e = length-replicate {A = ℕ} n 0 in get_or_past (replicate n 0) k 0 (omega arith)) (cases_lt k n)
+
+pub cleared : (n : ℕ) (words : List ℕ) → words ≡ replicate n 0 → (r t : ℕ) → bit_at words r t ≡ false
 unfolding bit_of
-cleared words h r t =
+cleared n words e r t =
     let i = 4 * r + t / 64 in
-    let z : get_or words i 0 ≡ 0 = ⊎_elim (λ (l : i < length words). h i l) (λ (l : length words ≤ i). get_or_past words i 0 l) (cases_lt i (length words)) in
-    ap (λ (w : ℕ). eqb (w / 2 ^ (t % 64) % 2) 1) z ∙ ap (λ (w : ℕ). eqb (w % 2) 1) (zero-div (2 ^ (t % 64)))
+    ap (λ (xs : List ℕ). eqb (get_or xs i 0 / 2 ^ (t % 64) % 2) 1) e
+    ∙ ap (λ (w : ℕ). eqb (w / 2 ^ (t % 64) % 2) 1) (zeros n i) ∙ ap (λ (w : ℕ). eqb (w % 2) 1) (zero-div (2 ^ (t % 64)))

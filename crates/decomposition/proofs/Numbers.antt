@@ -1,5 +1,7 @@
 -- The steps of the numbering.
 use Rattle.std.proofs.Common.{◌≡◌, ℕ, zero, suc, ◌+◌, ◌<◌, ◌≤◌, Bool, true, false, cond, ◌||◌, List, [], ◌∷◌, ◌++◌, length, get_or, Some, None, Option, sym, refl, ap, ◌∙◌, subst, ap₂, ⊎_elim, add-one, arith}
+use Rattle.std.specs.Bool.{then_some}
+use Rattle.std.specs.Int.{from_bool}
 use Rattle.std.proofs.lemmas.List.{get_or_append_left, get_or-append-add, length-append}
 use Rattle.std.proofs.lemmas.Bool.{cases_eq}
 use Rattle.table.specs.Sums.{sum_n}
@@ -26,6 +28,18 @@ count_next k p b e = sum_more k (λ i. cond (p i) 1 0) ∙ ap (λ (x : Bool). co
 any_same : (n : ℕ) (p q : ℕ → Bool) → ((i : ℕ) → i < n → p i ≡ q i) → any n p ≡ any n q
 any_same zero p q h = refl
 any_same (suc n) p q h = ap₂ (λ (x y : Bool). x || y) (any_same n p q (λ i l. h i (omega arith))) (h n (omega arith))
+
+pub chosen : {X : Type 0} (b : Bool) (x : X) → then_some b x ≡ cond b (Some x) None
+chosen true x = refl
+chosen false x = refl
+
+pub one_more : (b : Bool) → from_bool b ≡ cond b 1 0
+one_more true = refl
+one_more false = refl
+
+pub one_most : (b : Bool) → from_bool b ≤ 1
+one_most true = omega arith
+one_most false = omega arith
 
 pub none_numbered : (T : Table) → Numbered T 0 [] [] 0
 none_numbered T = record {

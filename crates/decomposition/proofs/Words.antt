@@ -51,10 +51,10 @@ or_false true = refl
 or_false false = refl
 
 -- one bit is set, by its word
-pub set-bit : (ws : List ℕ) (row col : ℕ) → col < 256 → 4 * row + 4 ≤ length ws → (r c : ℕ) → c < 256
+set-one : (ws : List ℕ) (row col : ℕ) → col < 256 → 4 * row + 4 ≤ length ws → (r c : ℕ) → c < 256
     → bit_at (set ws (4 * row + col / 64) (bit_or (get_or ws (4 * row + col / 64) 0) ((1 * 2 ^ (col % 64)) % 2 ^ 64))) r c
     ≡ (bit_at ws r c || (eqb r row && eqb c col))
-set-bit ws row col h l r c k =
+set-one ws row col h l r c k =
     ⊎_elim
     (λ (q : place ≡ at).
     let same : get_or (set ws at both) place 0 ≡ both = ap (λ (x : ℕ). get_or (set ws at both) x 0) q ∙ get_or-set_same ws at both 0 (omega arith) in
@@ -96,53 +96,53 @@ set-bit ws row col h l r c k =
         (λ (e : r ≡ row → ⊥). sym (and_left (eqb r row) (eqb c col) (ne_eqb r row e)))
         (cases_eq r row)
 
--- the first j words of the row `from` have been added to those of the row `to`
-pub record Ored (old new : List ℕ) (to from j : ℕ) : Type 0 where
-  pub done : (m : ℕ) → m < j → get_or new (4 * to + m) 0 ≡ bit_or (get_or old (4 * to + m) 0) (get_or old (4 * from + m) 0)
+pub set-bit : (ws : List ℕ) (row col w : ℕ) → w ≡ get_or ws (4 * row + col / 64) 0 → col < 256 → 4 * row + 4 ≤ length ws → (r c : ℕ) → c < 256
+    → bit_at (set ws (4 * row + col / 64) (bit_or w ((1 * 2 ^ (col % 64)) % 2 ^ 64))) r c ≡ (bit_at ws r c || (eqb r row && eqb c col))
+set-bit ws row col w e h l r c k =
+    ap (λ (x : ℕ). bit_at (set ws (4 * row + col / 64) (bit_or x ((1 * 2 ^ (col % 64)) % 2 ^ 64))) r c) e ∙ set-one ws row col h l r c k
+
+-- the first j of four words have been added to those of the row `to`
+pub record Ored (old new : List ℕ) (to : ℕ) (row : List ℕ) (j : ℕ) : Type 0 where
+  pub done : (m : ℕ) → m < j → get_or new (4 * to + m) 0 ≡ bit_or (get_or old (4 * to + m) 0) (get_or row m 0)
   pub rest : (i : ℕ) → ((m : ℕ) → m < j → i ≡ 4 * to + m → ⊥) → get_or new i 0 ≡ get_or old i 0
 
-pub ored_none : (old : List ℕ) (to from : ℕ) → Ored old old to from 0
-ored_none old to from = record { done = λ m h. absurd (let z : m < 0 = h in omega arith); rest = λ i h. refl }
+pub ored_none : (old : List ℕ) (to : ℕ) (row : List ℕ) → Ored old old to row 0
+ored_none old to row = record { done = λ m h. absurd (let z : m < 0 = h in omega arith); rest = λ i h. refl }
 
 apart_rows : (x y m n : ℕ) → (x ≡ y → ⊥) → m < 4 → n < 4 → 4 * x + m ≡ 4 * y + n → ⊥
 apart_rows x y m n f h k q =
     ⊎_elim (λ (e : x ≡ y). f e) (⊎_elim (λ (l : x < y). omega arith) (λ (l : y < x). omega arith)) (cases_order x y)
 
-pub ored_more : {old new : List ℕ} {to from j : ℕ} → Ored old new to from j → j < 4 → 4 * to + 4 ≤ length new
-    → Ored old (set new (4 * to + j) (bit_or (get_or new (4 * to + j) 0) (get_or new (4 * from + j) 0))) to from (j + 1)
-ored_more {old} {new} {to} {from} {j} o h l = record {
+pub ored_more : {old new : List ℕ} {to : ℕ} {row : List ℕ} {j : ℕ} → Ored old new to row j → j < 4 → 4 * to + 4 ≤ length new
+    → Ored old (set new (4 * to + j) (bit_or (get_or new (4 * to + j) 0) (get_or row j 0))) to row (j + 1)
+ored_more {old} {new} {to} {row} {j} o h l = record {
   done = λ m k. ⊎_elim
       (λ (e : m ≡ j).
       rw e (get_or-set_same new (4 * to + j) both 0 (omega arith)
-      ∙ ap₂ bit_or (o.rest (4 * to + j) (λ x y q. omega arith)) (o.rest (4 * from + j) other)))
+      ∙ ap (λ (x : ℕ). bit_or x (get_or row j 0)) (o.rest (4 * to + j) (λ x y z. omega arith))))
       (λ (e : m ≡ j → ⊥).
-      get_or-set_other new (4 * to + j) (4 * to + m) both 0 (λ q. e (omega arith)) ∙ o.done m (omega arith))
+      get_or-set_other new (4 * to + j) (4 * to + m) both 0 (λ z. e (omega arith)) ∙ o.done m (omega arith))
       (cases_eq m j);
   rest = λ i f.
-      get_or-set_other new (4 * to + j) i both 0 (λ q. f j (omega arith) q) ∙ o.rest i (λ m k. f m (omega arith));
+      get_or-set_other new (4 * to + j) i both 0 (λ z. f j (omega arith) z) ∙ o.rest i (λ m k. f m (omega arith));
 }
   where
     both : ℕ
-    both = bit_or (get_or new (4 * to + j) 0) (get_or new (4 * from + j) 0)
+    both = bit_or (get_or new (4 * to + j) 0) (get_or row j 0)
 
-    other : (m : ℕ) → m < j → 4 * from + j ≡ 4 * to + m → ⊥
-    other m k q =
-        ⊎_elim
-        (λ (e : from ≡ to). omega arith)
-        (λ (e : from ≡ to → ⊥). apart_rows from to j m e h (omega arith) q)
-        (cases_eq from to)
-
-pub ored_all : {old new : List ℕ} {to from : ℕ} → Ored old new to from 4 → (r c : ℕ) → c < 256
-    → bit_at new r c ≡ (bit_at old r c || (eqb r to && bit_at old from c))
-ored_all {old} {new} {to} {from} o r c h =
+pub ored_all : {old new : List ℕ} {to : ℕ} {row : List ℕ} → Ored old new to row 4 → (r c : ℕ) → c < 256
+    → bit_at new r c ≡ (bit_at old r c || (eqb r to && bit_at row 0 c))
+ored_all {old} {new} {to} {row} o r c h =
     ⊎_elim
     (λ (e : r ≡ to).
     let m = c / 64 in
+    let z : c / 64 ≡ 4 * 0 + c / 64 = omega arith in
     rw e (ap (λ (w : ℕ). bit_of w (c % 64)) (o.done m (omega arith))
-    ∙ bit-or (get_or old (4 * to + m) 0) (get_or old (4 * from + m) 0) (c % 64)
-    ∙ ap (λ (x : Bool). bit_at old to c || (x && bit_at old from c)) (sym (eq-eqb to to refl))))
+    ∙ bit-or (get_or old (4 * to + m) 0) (get_or row m 0) (c % 64)
+    ∙ ap (λ (i : ℕ). bit_at old to c || bit_of (get_or row i 0) (c % 64)) z
+    ∙ ap (λ (x : Bool). bit_at old to c || (x && bit_at row 0 c)) (sym (eq-eqb to to refl))))
     (λ (e : r ≡ to → ⊥).
     ap (λ (w : ℕ). bit_of w (c % 64)) (o.rest (4 * r + c / 64) (λ m k q. apart_rows r to (c / 64) m e (omega arith) k q))
     ∙ sym (or_false (bit_at old r c))
-    ∙ ap (λ (x : Bool). bit_at old r c || (x && bit_at old from c)) (sym (ne_eqb r to e)))
+    ∙ ap (λ (x : Bool). bit_at old r c || (x && bit_at row 0 c)) (sym (ne_eqb r to e)))
     (cases_eq r to)

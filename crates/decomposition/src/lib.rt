@@ -3,11 +3,13 @@
 
 mod apart;
 mod bits;
+mod kept;
 mod lookup;
 mod number;
 mod parts;
 mod passes;
 mod reach;
+mod taken;
 
 pub use apart::decompose;
 pub use parts::Parts;

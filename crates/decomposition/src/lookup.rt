@@ -1,9 +1,8 @@
 ghost use Rattle.std.specs.Prelude.{◌≡◌, vec_len};
 ghost use Rattle.decomposition.specs.Decomposed.{inside_in, node_in, component_in};
 
+use crate::kept::{MOST_CHOICES, place};
 use crate::parts::Parts;
-
-const MOST_CHOICES: u32 = 16;
 
 impl Parts {
     // How many nodes there are.
@@ -20,38 +19,29 @@ impl Parts {
         self.components
     }
 
-    // The node of a state; 0 where there is no such state.
+    // The node of a state; 0 where there is no such state, as outside every table: a look-up is total.
     pub fn node_of(&self, state: u32) -> u32
         ensures { result ≡ node_in self.now state }
     {
-        let s = state as usize;
-        if s < self.node.len() { self.node[s] } else { 0 }
+        self.node.get(state as usize).copied().unwrap_or(0)
     }
 
     // The component that a node is, if it is one.
     pub fn component_at(&self, node: u32) -> Option<u32>
         ensures { result ≡ component_in self.now node }
     {
-        let v = node as usize;
-        if v < self.component.len() {
-            self.component[v]
-        } else {
-            None
-        }
+        self.component.get(node as usize).copied().flatten()
     }
 
     // Whether a choice is inside.
     pub fn is_inside(&self, state: u32, choice: u32) -> bool
         ensures { result ≡ inside_in self.now state choice }
     {
-        if choice >= MOST_CHOICES {
-            return false;
-        }
-        let place = 16 * state as usize + choice as usize;
-        if place < self.inside.len() {
-            self.inside[place]
-        } else {
-            false
-        }
+        choice < MOST_CHOICES
+            && self
+                .inside
+                .get(place(state, choice))
+                .copied()
+                .unwrap_or(false)
     }
 }

@@ -1,86 +1,81 @@
-ghost use Rattle.std.specs.Prelude.{◌≡◌, ℕ, ◌+◌, ◌*◌, ◌<◌, ◌≤◌, length};
-ghost use Rattle.table.specs.Limits.{Lawful};
+ghost use Rattle.std.specs.Prelude.{◌<◌, ◌≤◌};
 ghost use Rattle.components.specs.EndComponent.{Choice};
 ghost use Rattle.components.specs.Inside.{reach};
+ghost use Rattle.model.specs.Held.{table_of};
 ghost use Rattle.decomposition.specs.Bits.{bit_at, Marks};
 ghost use Rattle.decomposition.specs.Marking.{flag_at, branch_to, one_step, Shows, through, closure};
 
-use crate::bits::{bit, clear, or_row, set_bit};
+use crate::bits::Square;
+use crate::kept::Kept;
+use model::Model;
 use table::Source;
 
 // Marks the successors of a choice in the row of its state.
-fn mark_choice<S: Source>(source: &S, state: u32, choice: u32, words: &mut [u64])
-    requires lawful { Lawful (S.table source.now) }
-    requires choice { Choice (S.table source.now) state choice }
-    requires size { 4 * (S.table source.now).states ≤ length words.old }
-    ensures { Marks words.old words.new state (branch_to (S.table source.now) state choice) }
+fn mark_choice(model: &Model, state: u32, choice: u32, square: &mut Square)
+    requires { Choice (table_of model.now) state choice }
+    ensures { Marks square.old.words.items square.new.words.items state (branch_to (table_of model.now) state choice) }
 {
-    for branch in 0..source.branches(state, choice) {
-        let (successor, _) = source.branch(state, choice, branch);
-        set_bit(words, state as usize, successor as usize);
+    for branch in 0..model.branches(state, choice) {
+        let (successor, _) = model.branch(state, choice, branch);
+        square.set(state, successor);
     }
 }
 
 // Marks a state and the successors of its kept choices in its row.
-fn mark_state<S: Source>(source: &S, flags: &[bool], state: u32, words: &mut [u64])
-    requires lawful { Lawful (S.table source.now) }
-    requires within { state < (S.table source.now).states }
-    requires size { 4 * (S.table source.now).states ≤ length words.old }
-    requires places { 16 * (S.table source.now).states ≤ length flags.now }
-    ensures { Marks words.old words.new state (one_step (S.table source.now) (flag_at flags.now) state) }
+fn mark_state(model: &Model, kept: &Kept, state: u32, square: &mut Square)
+    requires { state < (table_of model.now).states }
+    ensures { Marks square.old.words.items square.new.words.items state (one_step (table_of model.now) (flag_at kept.now.flags.items) state) }
 {
-    let s = state as usize;
-    set_bit(words, s, s);
-    for choice in 0..source.choices(state) {
-        let place = 16 * s + choice as usize;
-        if flags[place] {
-            mark_choice(source, state, choice, words);
+    square.set(state, state);
+    for choice in 0..model.choices(state) {
+        if kept.has(state, choice) {
+            mark_choice(model, state, choice, square);
         }
     }
 }
 
 // Marks each two states of which one is the other, or leads to it by a kept choice.
-fn mark_steps<S: Source>(source: &S, flags: &[bool], words: &mut [u64])
-    requires lawful { Lawful (S.table source.now) }
-    requires size { 4 * (S.table source.now).states ≤ length words.old }
-    requires places { 16 * (S.table source.now).states ≤ length flags.now }
-    ensures { Shows (S.table source.now).states words.new (one_step (S.table source.now) (flag_at flags.now)) }
+fn mark_steps(model: &Model, kept: &Kept, square: &mut Square)
+    ensures { Shows (table_of model.now).states square.new.words.items (one_step (table_of model.now) (flag_at kept.now.flags.items)) }
 {
-    clear(words);
-    for state in 0..source.states() {
-        mark_state(source, flags, state, words);
+    square.clear();
+    for state in 0..model.states() {
+        mark_state(model, kept, state, square);
     }
 }
 
-// Adds the ways through one state: to each row that reaches it, its row.
-fn close_through(words: &mut [u64], states: usize, middle: usize)
-    requires { (states ≤ 256) × ((middle < states) × (4 * states ≤ length words.old)) }
-    ensures { Shows states words.new (through (bit_at words.old) middle) }
-{
-    for state in 0..states {
-        if bit(words, state, middle) {
-            or_row(words, state, middle);
+impl Square {
+    // Adds the ways through one state: to each row that reaches it, its row.
+    // The rows are written by their numbers: over `chunks_exact_mut(4)`, which was tried, a loop's invariant cannot speak
+    // of the words that it writes.
+    fn close_through(&mut self, states: u32, middle: u32)
+        requires few { states ≤ 256 }
+        requires within { middle < states }
+        ensures { Shows states self.new.words.items (through (bit_at self.old.words.items) middle) }
+    {
+        let row = self.row(middle);
+        for state in 0..states {
+            if self.bit(state, middle) {
+                self.add_row(state, &row);
+            }
+        }
+    }
+
+    // Adds all ways between the first states, by Warshall's rule.
+    fn close(&mut self, states: u32)
+        requires { states ≤ 256 }
+        ensures { Shows states self.new.words.items (closure (bit_at self.old.words.items) states) }
+    {
+        for middle in 0..states {
+            self.close_through(states, middle);
         }
     }
 }
 
-// Adds all ways, by Warshall's rule.
-fn close(words: &mut [u64], states: usize)
-    requires { (states ≤ 256) × (4 * states ≤ length words.old) }
-    ensures { Shows states words.new (closure (bit_at words.old) states) }
-{
-    for middle in 0..states {
-        close_through(words, states, middle);
-    }
-}
-
 // Marks each two states of which one reaches the other by kept choices.
-pub(crate) fn mark_reach<S: Source>(source: &S, flags: &[bool], words: &mut [u64])
-    requires lawful { Lawful (S.table source.now) }
-    requires size { 4 * (S.table source.now).states ≤ length words.old }
-    requires places { 16 * (S.table source.now).states ≤ length flags.now }
-    ensures { Shows (S.table source.now).states words.new (reach (S.table source.now) (flag_at flags.now)) }
+pub(crate) fn mark_reach(model: &Model, kept: &Kept, square: &mut Square)
+    ensures { Shows (table_of model.now).states square.new.words.items (reach (table_of model.now) (flag_at kept.now.flags.items)) }
 {
-    mark_steps(source, flags, words);
-    close(words, source.states() as usize);
+    mark_steps(model, kept, square);
+    square.close(model.states());
 }

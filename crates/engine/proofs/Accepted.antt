@@ -1,7 +1,8 @@
 -- What an accepted call answers and leaves.
-use Rattle.std.proofs.Common.{◌≡◌, ℕ, ◌<◌, ◌≤◌, Bool, true, false, cond, ◌&&◌, ltb, leb, List, ◌++◌, length, drop, ℤ, pos, ◌-ℤ◌, Some, None, Option, sym, refl, ap, ◌∙◌, ap₂}
+use Rattle.std.proofs.Common.{◌≡◌, ℕ, ◌<◌, ◌≤◌, Bool, true, false, cond, ◌&&◌, ltb, leb, List, ◌++◌, length, drop, ℤ, pos, ◌-ℤ◌, Some, None, Option, Ok, Err, Result, MatchResult, IsErrAnd, sym, refl, ap, ◌∙◌, ap₂, subst}
 use lib.Signed.{le_z}
 use Rattle.std.proofs.lemmas.Bool.{and_from, cond-true, lt-ltb, le-leb}
+use Rattle.std.proofs.lemmas.Result.{err_from_is_err_and}
 use Rattle.table.specs.Table.{Table}
 use Rattle.table.specs.Walk.{fault_of}
 use Rattle.table.specs.declared.fault.Fault.{Fault}
@@ -28,6 +29,7 @@ use Rattle.history.specs.declared.refusal.Refusal.{Refusal}
 use Rattle.history.specs.declared.refusal.Refusal.TheVariants as refusal
 use Rattle.history.proofs.Histories.{every_history}
 use Rattle.history.proofs.Refusing.{answer_broken, answer_kept, after_broken, after_kept, next_load, load-answer}
+use Rattle.engine.specs.States.{held_state}
 use Rattle.engine.specs.Opens.{Opens, Loads}
 
 module _ (T : Table) (B : Book) where
@@ -76,14 +78,14 @@ module _ (T : Table) (B : Book) where
   close_next T' A s a = ap₂ loaded s a
 
   -- a quote of an existing state
-  pub quote-answer : (s width mark : ℕ) (p : ℤ × ℤ) → s < T.states → p ≡ bounds_at T B s → mark ≡ cond (le_z (p.1 -ℤ p.0) (pos width)) 1 0
-      → quoted p.0 p.1 mark ≡ answer (loaded T B) (quote s width)
+  pub quote-answer : (s width : ℕ) (mark : Bool) (p : ℤ × ℤ) → s < T.states → p ≡ bounds_at T B s → mark ≡ le_z (p.1 -ℤ p.0) (pos width)
+      → quoted p.0 p.1 (cond mark 1 0) ≡ answer (loaded T B) (quote s width)
   unfolding answer answer_loaded quote_answer bounds_at
   quote-answer s width mark p h e m =
       let M = setting_of T in
       let t : ltb s T.states ≡ true = lt-ltb s T.states h in
       let b : p ≡ (lower_at M B s, upper_at M B s) = e ∙ cond-true (ltb s T.states) (lower_at M B s, upper_at M B s) (pos 0, pos 0) t in
-      ap (quoted p.0 p.1) m
+      ap (λ (b : Bool). quoted p.0 p.1 (cond b 1 0)) m
       ∙ ap (λ (q : ℤ × ℤ). quoted q.0 q.1 (cond (le_z (q.1 -ℤ q.0) (pos width)) 1 0)) b
       ∙ sym (cond-true (ltb s T.states) (quote_answer T B s width) (refused refusal.State) t)
 
@@ -124,6 +126,14 @@ open_loaded T d a = record { memory = true; holds = at_start T d a ∙ sym (open
 pub open_idle : (T : Table) (f : LoadFault) (e : Refusal) → RefusedLoad T f → e ≡ refusal_of f → Opens T (idle e)
 open_idle T (Limit b) e h r = record { memory = true; holds = ap idle r ∙ sym (opened_by T true (Some b) h); law = every_history T true }
 open_idle T Memory e h r = record { memory = false; holds = ap idle r ∙ sym (opened_by T false None h); law = every_history T false }
+
+-- a desk as it was opened, or the refusal of what stopped it
+pub open_held : (T : Table) (r : Result Desk LoadFault) (held : Result Desk Refusal) → MatchResult r (AtStart T) (RefusedLoad T)
+    → MatchResult r (λ d. held ≡ Ok d) (λ f. IsErrAnd held (λ e. e ≡ refusal_of f)) → Opens T (held_state held)
+open_held T (Ok d) held a h = subst (λ (x : Result Desk Refusal). Opens T (held_state x)) (sym h) (open_loaded T d a)
+open_held T (Err f) held a h =
+    let p = err_from_is_err_and held h in
+    subst (λ (x : Result Desk Refusal). Opens T (held_state x)) (sym p.1) (open_idle T f p.0 a p.2)
 
 pub load_loaded : (T : Table) (S : State) (d : Desk) → AtStart T d → Loads T S (loaded (desk_table d) (desk_book d)) done
 load_loaded T S d a =

@@ -1,14 +1,16 @@
 -- Where a call is refused: the reason, from what standing answers.
-use Rattle.std.proofs.Common.{◌≡◌, ℕ, ◌<◌, ◌≤◌, false, List, length, sym, ap, ◌∙◌, subst, arith}
+use Rattle.std.proofs.Common.{◌≡◌, ℕ, ◌<◌, ◌≤◌, true, false, List, length, is_err, Ok, Err, Result, sym, ap, ◌∙◌, arith}
 use Rattle.table.specs.Table.{Table}
 use Rattle.components.specs.Nodes.{components}
 use Rattle.rules.specs.Book.{Book}
+use Rattle.book.specs.declared.desk.Desk.{Desk}
 use Rattle.history.specs.Calls.{State, idle, loaded, Call, standing, refines, sweeping, quote, plan, counts, next}
 use Rattle.history.specs.Answers.{refused, stands, answer_loaded, answer_idle, answer}
 use Rattle.history.specs.Refusing.{Needy, Reason, needed, no_component, bad_steps, bad_sweeps, no_state, no_room}
 use Rattle.history.specs.declared.refusal.Refusal.{Refusal}
 use Rattle.history.specs.declared.refusal.Refusal.TheVariants as refusal
 use Rattle.history.proofs.Refusing.{refusal_law, miscounted}
+use Rattle.engine.specs.States.{held_state}
 
 -- what has a reason is refused and changes nothing
 pub record Refuses (S : State) (c : Call) (e : Refusal) : Type 0 where
@@ -73,10 +75,11 @@ module _ (n k : ℕ) where
       let p : length list < T.states = omega (arith, e, l) in
       refuses (loaded T B) (plan list) refusal.Room (no_room p)
 
-  -- an engine that stands is not idle
-  pub not_idle : {P : Type 0} (S : State) (d : Refusal) → stands n k ≡ answer S standing → S ≡ idle d → P
+  -- an engine that stands holds a table
+  pub not_idle : {P : Type 0} (held : Result Desk Refusal) → stands n k ≡ answer (held_state held) standing → is_err held ≡ true → P
   unfolding answer answer_idle
-  not_idle S d h e = idle_stands d (subst (λ (R : State). stands n k ≡ answer R standing) e h)
+  not_idle (Err d) h e = idle_stands d h
+  not_idle (Ok d) h e = let z : ◌≡◌ {A = ℕ} 0 1 = cc in absurd (omega arith)
 
   pub components_stand : (S : State) (T : Table) (B : Book) → stands n k ≡ answer S standing → S ≡ loaded T B → k ≡ components T
   unfolding answer answer_loaded

@@ -1,16 +1,11 @@
 -- One more call at the end of a list.
-use Rattle.std.proofs.Common.{◌≡◌, ℕ, Bool, true, List, [], ◌∷◌, ◌++◌, is_err, IfOk, Ok, Err, Result, sym, refl, ap, ◌∙◌, arith}
+use Rattle.std.proofs.Common.{◌≡◌, ℕ, Bool, List, [], ◌∷◌, ◌++◌, sym, refl, ap, ◌∙◌}
 use Rattle.table.specs.Table.{Table}
 use Rattle.history.specs.Calls.{State, idle, loaded, Call, standing, quote, opened, next, after_idle, after_call, run}
 use Rattle.history.specs.Answers.{Answer, answer, answers}
 use Rattle.engine.specs.Opens.{Opens}
 use Rattle.engine.specs.Replays.{call_of, Makes, Stand, Replayed}
 use Rattle.engine.specs.declared.call.Call.{Call as CodeCall}
-
--- nothing is said of a failure
-pub failed : {A E : Type 0} (P : A → Type 0) (r : Result A E) → is_err r ≡ true → IfOk r P
-failed P (Err e) h = tt
-failed P (Ok x) h = let z : ◌≡◌ {A = ℕ} 0 1 = cc in absurd (omega arith)
 
 -- calls that only answer
 pub standing_stays : (S : State) → S ≡ next S standing

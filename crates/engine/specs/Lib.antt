@@ -1,3 +1,4 @@
 pub mod States
 pub mod Opens
 pub mod Replays
+pub mod Lending

@@ -1,23 +1,24 @@
 -- A list of calls made on one engine, each starting from what the one before left.
-use Rattle.std.specs.Prelude.{◌≡◌, Bool, List, [], ◌∷◌, replicate, vec_items}
+use Rattle.std.specs.Prelude.{◌≡◌, Bool, cond, List, [], ◌∷◌, Ok, Err, Result, replicate, vec_items}
 use Rattle.table.specs.Table.{Table}
 use Rattle.history.specs.Calls as history
 use Rattle.history.specs.Answers as answered
 use Rattle.history.specs.Histories.{HistoryLaw}
+use Rattle.history.specs.declared.refusal.Refusal.{Refusal}
 use Rattle.engine.specs.declared.call.Call.{Call}
 use Rattle.engine.specs.declared.call.Call.TheVariants as call
 use Rattle.engine.specs.declared.call.Answer.{Answer}
 use Rattle.engine.specs.declared.call.Answer.TheVariants as result
 
 -- what each answer of the code stands for
-abbrev pub answer_of : Answer → answered.Answer
-answer_of (result.Refused e) = answered.refused e
-answer_of result.Done = answered.done
-answer_of (result.Stands n k) = answered.stands n k
-answer_of (result.Refined made lo hi) = answered.refined made lo hi
-answer_of (result.Swept made) = answered.swept made
-answer_of (result.Quoted lower upper mark) = answered.quoted lower upper mark
-answer_of (result.Planned list) = answered.planned (vec_items list)
+abbrev pub answer_of : Result Answer Refusal → answered.Answer
+answer_of (Ok result.Done) = answered.done
+answer_of (Ok (result.Stands n k)) = answered.stands n k
+answer_of (Ok (result.Refined made lo hi)) = answered.refined made lo hi
+answer_of (Ok (result.Swept made)) = answered.swept made
+answer_of (Ok (result.Quoted lower upper mark)) = answered.quoted lower upper (cond mark 1 0)
+answer_of (Ok (result.Planned list)) = answered.planned (vec_items list)
+answer_of (Err e) = answered.refused e
 
 -- what each call of the code stands for, by the tables of its sources: a load with memory for it or without
 abbrev pub call_of : {S : Type 0} → (S → Table) → Call S → Bool → history.Call

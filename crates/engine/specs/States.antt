@@ -1,16 +1,16 @@
 -- What an engine holds, and what its results stand for.
-use Rattle.std.specs.Prelude.{ℕ, List, ℤ, Ok, Err, Result}
+use Rattle.std.specs.Prelude.{ℕ, Bool, cond, List, ℤ, Ok, Err, Result}
 use Rattle.history.specs.declared.refusal.Refusal.{Refusal}
 use Rattle.history.specs.Calls.{State, idle, loaded}
 use Rattle.history.specs.Answers.{Answer, refused, done, stands, refined, swept, quoted, planned}
 use Rattle.book.specs.Desks.{desk_table, desk_book}
-use Rattle.engine.specs.declared.engine.Held.{Held}
-use Rattle.engine.specs.declared.engine.Held.TheVariants.{Idle, Loaded}
+use Rattle.book.specs.declared.desk.Desk.{Desk}
 use Rattle.engine.specs.declared.engine.Engine.{Engine}
 
-abbrev pub held_state : Held → State
-held_state (Idle e) = idle e
-held_state (Loaded d) = loaded (desk_table d) (desk_book d)
+-- a table that is loaded, with its book, or the refusal of the open
+abbrev pub held_state : Result Desk Refusal → State
+held_state (Ok d) = loaded (desk_table d) (desk_book d)
+held_state (Err e) = idle e
 
 abbrev pub state_of : Engine → State
 state_of e = held_state e.held
@@ -33,8 +33,9 @@ abbrev pub swept_answer : Result ℕ Refusal → Answer
 swept_answer (Ok n) = swept n
 swept_answer (Err e) = refused e
 
-abbrev pub quoted_answer : Result (ℤ × ℤ × ℕ) Refusal → Answer
-quoted_answer (Ok x) = quoted x.0 x.1 x.2
+-- the mark is a truth: 1 for it, else 0
+abbrev pub quoted_answer : Result (ℤ × ℤ × Bool) Refusal → Answer
+quoted_answer (Ok x) = quoted x.0 x.1 (cond x.2 1 0)
 quoted_answer (Err e) = refused e
 
 -- a plan, with the caller's list then

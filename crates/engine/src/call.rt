@@ -1,7 +1,5 @@
-use history::Refusal;
-
 // A call with its arguments. A load has its source; a plan is written into a list of `room` zeros.
-#[derive(Drop)]
+#[derive(Debug, Drop, PartialEq, Eq)]
 pub enum Call<S: Drop> {
     Load(S),
     Standing,
@@ -23,14 +21,13 @@ pub enum Call<S: Drop> {
     },
 }
 
-// What a call answers.
-#[derive(Drop)]
+// What a call that is not refused answers.
+#[derive(Debug, Drop, PartialEq, Eq)]
 pub enum Answer {
-    Refused(Refusal),
     Done,
     Stands { states: u64, components: u64 },
     Refined { made: u64, lo: i64, hi: i64 },
     Swept { made: u64 },
-    Quoted { lower: i64, upper: i64, mark: u64 },
+    Quoted { lower: i64, upper: i64, mark: bool },
     Planned { list: Vec<u32> },
 }

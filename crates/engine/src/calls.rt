@@ -1,14 +1,16 @@
-ghost use Rattle.std.specs.Prelude.{◌≡◌, pos, ◌-ℤ◌, if◌then◌else◌, int_le};
-ghost use Rattle.book.specs.Desks.{SmallBound};
+ghost use Rattle.std.specs.Prelude.{◌≡◌, pos, ◌-ℤ◌, int_le, MatchResult, IsErr};
 ghost use Rattle.history.specs.Calls.{next, counts as counts_test};
 ghost use Rattle.history.specs.Calls.Call.{load as load_call, standing as standing_call, refines, sweeping, close as close_call, quote as quote_call, plan as plan_call};
 ghost use Rattle.history.specs.Answers.{answer};
 ghost use Rattle.history.specs.Refusing.{RefusalLaw};
 ghost use Rattle.history.specs.Worked.{Worked};
 ghost use Rattle.engine.specs.States.{state_of, done_answer, stands_answer, refined_answer, swept_answer, quoted_answer, planned_answer, list_after};
+ghost use Rattle.std.specs.Borrow.{sem};
+ghost use Rattle.history.specs.declared.refusal.Refusal.{Refusal};
+ghost use Rattle.engine.specs.Lending.{LendsDesk};
 ghost use Rattle.engine.specs.Opens.{Opens, Loads};
 
-use crate::engine::{Engine, Held};
+use crate::engine::Engine;
 use book::Desk;
 use history::Refusal;
 use std::alloc::Global;
@@ -18,39 +20,36 @@ use table::Source;
 fn counts(count: u64) -> bool
     ensures { result ≡ counts_test count }
 {
-    1 <= count && count <= 1000
+    (1..=1000).contains(&count)
 }
 
-// 1 if the bounds are at most the width apart, else 0
-fn mark(lower: i64, upper: i64, width: u64) -> u64
-    requires lower { SmallBound lower }
-    requires upper { SmallBound upper }
-    ensures { result ≡ (if int_le (upper -ℤ lower) (pos width) then 1 else 0) }
+// The bounds are at most the width apart.
+fn mark(lower: i64, upper: i64, width: u64) -> bool
+    ensures { result ≡ int_le (upper -ℤ lower) (pos width) }
 {
-    let gap = upper - lower;
-    if gap < 0 {
-        return 1;
-    }
-    if gap as u64 <= width {
-        return 1;
-    }
-    0
+    i128::from(upper) - i128::from(lower) <= i128::from(width)
 }
 
 impl Engine {
+    // The table that is loaded, with its book; without one the call is refused.
+    fn desk(&mut self) -> Result<&mut Desk, Refusal>
+        ensures* lends { sem 𝓛 (LendsDesk self.entry result) }
+        ensures held { MatchResult result (λ d. self.old.held ≡ Ok d.now) (λ e. (e ≡ Refusal.Idle) × IsErr self.old.held) }
+    {
+        match &mut self.held {
+            Ok(desk) => Ok(desk),
+            Err(_) => Err(Refusal::Idle),
+        }
+    }
+
     // An engine with the source's table at its start; an idle one if it is refused.
     pub fn open<S: Source>(heap: Global, source: &S) -> Engine
         ensures opens { Opens (S.table source.now) (state_of result) }
         ensures refusals { RefusalLaw }
         ensures worked { Worked }
     {
-        match Desk::open(heap, source) {
-            Ok(desk) => Engine {
-                held: Held::Loaded(desk),
-            },
-            Err(fault) => Engine {
-                held: Held::Idle(Refusal::from(fault)),
-            },
+        Engine {
+            held: Desk::open(heap, source).map_err(Refusal::from),
         }
     }
 
@@ -59,7 +58,7 @@ impl Engine {
         ensures { Loads (S.table source.now) (state_of self.old) (state_of self.new) (done_answer result) }
     {
         let desk = Desk::open(heap, source)?;
-        self.held = Held::Loaded(desk);
+        self.held = Ok(desk);
         Ok(())
     }
 
@@ -68,10 +67,13 @@ impl Engine {
         ensures { stands_answer result ≡ answer (state_of self.now) standing_call }
     {
         match &self.held {
-            Held::Idle(refusal) => Err(*refusal),
-            Held::Loaded(desk) => Ok((desk.states(), desk.components())),
+            Ok(desk) => Ok((desk.states(), desk.components())),
+            Err(refusal) => Err(*refusal),
         }
     }
+
+    // A rule of this project: a refine, and each call below, takes the pair of numbers that standing answers by `let .. else`.
+    // Where that is a refusal, the call is refused as idle, whatever the open was refused with.
 
     // Steps made in the component, its lo and its hi then.
     pub fn refine(
@@ -92,9 +94,7 @@ impl Engine {
         if !counts(steps) {
             return Err(Refusal::Count);
         }
-        let Held::Loaded(desk) = &mut self.held else {
-            return Err(Refusal::Idle);
-        };
+        let desk = self.desk()?;
         let made = desk.refine(component, steps, width);
         let (lo, hi) = desk.bounds(component);
         Ok((made, lo, hi))
@@ -111,10 +111,7 @@ impl Engine {
         if !counts(count) {
             return Err(Refusal::Count);
         }
-        let Held::Loaded(desk) = &mut self.held else {
-            return Err(Refusal::Idle);
-        };
-        Ok(desk.sweep(count))
+        Ok(self.desk()?.sweep(count))
     }
 
     // Back to the start of the table that is loaded.
@@ -125,15 +122,13 @@ impl Engine {
         let Ok((_, _)) = self.standing() else {
             return Err(Refusal::Idle);
         };
-        let Held::Loaded(desk) = &mut self.held else {
-            return Err(Refusal::Idle);
-        };
+        let desk = self.desk()?;
         desk.close();
         Ok(())
     }
 
-    // The lower and the upper bound of a state, and 1 exactly if they are at most the width apart, else 0.
-    pub fn quote(&self, state: u64, width: u64) -> Result<(i64, i64, u64), Refusal>
+    // The lower and the upper bound of a state, and whether they are at most the width apart.
+    pub fn quote(&self, state: u64, width: u64) -> Result<(i64, i64, bool), Refusal>
         ensures { quoted_answer result ≡ answer (state_of self.now) (quote_call state width) }
     {
         let Ok((states, _)) = self.standing() else {
@@ -142,7 +137,7 @@ impl Engine {
         if state >= states {
             return Err(Refusal::State);
         }
-        let Held::Loaded(desk) = &self.held else {
+        let Ok(desk) = &self.held else {
             return Err(Refusal::Idle);
         };
         let (lower, upper) = desk.quote(state);
@@ -161,10 +156,7 @@ impl Engine {
         if (list.len() as u64) < states {
             return Err(Refusal::Room);
         }
-        let Held::Loaded(desk) = &mut self.held else {
-            return Err(Refusal::Idle);
-        };
-        desk.plan(list);
+        self.desk()?.plan(list);
         Ok(())
     }
 }

@@ -1,14 +1,8 @@
 use book::Desk;
 use history::Refusal;
 
-// Idle with the refusal of its open, or loaded.
-#[derive(Drop)]
-pub(crate) enum Held {
-    Idle(Refusal),
-    Loaded(Desk),
-}
-
+// The table that is loaded, with its book, or the refusal of the open.
 #[derive(Drop)]
 pub struct Engine {
-    pub(crate) held: Held,
+    pub(crate) held: Result<Desk, Refusal>,
 }

@@ -1,6 +1,7 @@
 // What an engine answers and holds after every call, as definitions, and the law over whole histories.
 // The law stands on the contracts of the engine's own calls too (crate `engine`).
 // Two functions below stand for one theorem each: the contract is the theorem, and the answer is the theorem's number.
+// It answers a number since, by a rule of this project, each public function can be turned wrong by an edit that is refused.
 #![tactic(auto)]
 
 mod refusal;

@@ -1,11 +1,11 @@
 ghost use Rattle.std.specs.Prelude.{◌≡◌};
-ghost use Rattle.table.specs.Faults.{noted as noted_at};
 ghost use Rattle.history.specs.Refusals.{refusal_notice, refusal_of};
 
 use model::LoadFault;
 use table::{Fault, Notice};
 
-// Why a call is refused.
+// Why a call is refused. The two cases of a load stand beside the others, and not in one case that holds a `LoadFault`:
+// each case is then one reason with one number, as the definitions name them.
 #[derive(Clone, Copy, PartialEq, Eq, Debug)]
 pub enum Refusal {
     // the table breaks a limit
@@ -24,17 +24,6 @@ pub enum Refusal {
     Room,
 }
 
-fn numbered(number: u32) -> Notice
-    ensures { result ≡ noted_at number 0 0 0 }
-{
-    Notice {
-        number,
-        state: 0,
-        choice: 0,
-        branch: 0,
-    }
-}
-
 impl Refusal {
     // The refusal's number, and its place in the table where it has one.
     pub fn notice(&self) -> Notice
@@ -42,12 +31,12 @@ impl Refusal {
     {
         match *self {
             Refusal::Table(fault) => fault.notice(),
-            Refusal::Memory => numbered(20),
-            Refusal::Idle => numbered(21),
-            Refusal::Component => numbered(22),
-            Refusal::State => numbered(23),
-            Refusal::Count => numbered(24),
-            Refusal::Room => numbered(25),
+            Refusal::Memory => LoadFault::Memory.notice(),
+            Refusal::Idle => Notice::of_number(21),
+            Refusal::Component => Notice::of_number(22),
+            Refusal::State => Notice::of_number(23),
+            Refusal::Count => Notice::of_number(24),
+            Refusal::Room => Notice::of_number(25),
         }
     }
 }

@@ -9,7 +9,7 @@ use Rattle.horizon.specs.Potential.{potential, RewardsBetween, step_cost, consta
 use Rattle.horizon.specs.Lower.{StayingState, MovingState, LowerHypotheses, LowerTheorem}
 use Rattle.horizon.specs.Ring.{lin, over, times, mono, apart}
 use Rattle.horizon.specs.SumsLemmas.{weighted_n_mono, weighted_n_add, weighted_n_cong, weighted_z_cong}
-use Rattle.horizon.proofs.LowerCertificates.{lower-certificate-bounds}
+use Rattle.horizon.proofs.LowerCertificates.{bound_of_lower_certificate}
 use Rattle.horizon.proofs.Potentials.{bottom, below_top, falls, covers}
 use Rattle.horizon.specs.Branches.{branch_sum_n_const, branch_sum_z_const, branch_sum_n_mix}
 
@@ -116,7 +116,7 @@ module _ (T : Table) (F D H : ℕ) (low high : ℤ) (p : Plan) (depth : ℕ → 
   bound : (N s : ℕ) (past : List ℕ) → s < T.states
       → (pos (T.denominator ^ N) *ℤ ((pos N *ℤ y s) -ℤ pos (constant T.denominator F D H low high))) ≤ℤ (pos F *ℤ scaled_reward T (follow p) N s past)
   bound N s past h =
-      let a1 = lower-certificate-bounds T F p y bias law plans certificate N s past h in
+      let a1 = bound_of_lower_certificate T F p y bias law plans certificate N s past h in
       let a2 = bias_most s in
       let C = constant T.denominator F D H low high in
       let g : ℤ = pos N *ℤ y s in
@@ -124,6 +124,6 @@ module _ (T : Table) (F D H : ℕ) (low high : ℤ) (p : Plan) (depth : ℕ → 
       let a4 = mono (T.denominator ^ N) (g -ℤ pos C) (g -ℤ pos (bias s)) a3 in
       omega (arith, lin)
 
-pub lower-theorem : LowerTheorem
-lower-theorem T F D H low high p depth y t law rewards plans hypotheses N s past h =
+pub bound_of_lower_values : LowerTheorem
+bound_of_lower_values T F D H low high p depth y t law rewards plans hypotheses N s past h =
     bound T F D H low high p depth y t law rewards plans hypotheses N s past h

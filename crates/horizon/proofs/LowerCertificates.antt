@@ -2,21 +2,22 @@
 use Rattle.std.proofs.Common.{◌≡◌, ℕ, zero, suc, ◌*◌, ◌^◌, ◌<◌, List, ◌∷◌, ℤ, pos, ◌+ℤ◌, ◌-ℤ◌, ◌*ℤ◌, neg_ℤ, ◌≤ℤ◌, ap, ◌∙◌, mul_assoc, pow-suc, arith}
 use native.Mathlib.Nat.{pow-zero}
 use lib.IntN.{*ℤ-zero}
+use Rattle.std.proofs.Math.IntN.{zero-*ℤ}
 use Rattle.table.specs.Table.{Table, successor, weight}
 use Rattle.table.specs.Limits.{Lawful}
 use Rattle.horizon.specs.Sums.{weighted_z, branch_sum_n, branch_sum_z}
 use Rattle.horizon.specs.Strategies.{Plan, PlanNames, follow, scaled_reward}
 use Rattle.horizon.specs.Certificates.{LowerCertificate, LowerCertificateBounds}
-use Rattle.horizon.specs.Ring.{lin, none, more, once, over, over_neg, times, swap, mono}
+use Rattle.horizon.specs.Ring.{lin, more, once, over, over_neg, times, swap, mono}
 use Rattle.horizon.specs.SumsLemmas.{weighted_z_mono, weighted_z_add, weighted_z_scale, weighted_z_pos, weighted_n_scale}
 use Rattle.horizon.proofs.UpperCertificates.{stage}
 
-one-step : (F P W N D d : ℕ) (r S G g : ℤ)
+step_bound : (F P W N D d : ℕ) (r S G g : ℤ)
     → (pos P *ℤ (pos N *ℤ G)) ≤ℤ ((pos F *ℤ S) +ℤ pos (P * D))
     → (pos W *ℤ g) ≤ℤ G
     → ((pos W *ℤ g) +ℤ pos D) ≤ℤ ((pos (W * F) *ℤ r) +ℤ pos (W * d))
     → (pos (P * W) *ℤ (pos (suc N) *ℤ g)) ≤ℤ ((pos F *ℤ ((pos (P * W) *ℤ r) +ℤ S)) +ℤ pos (P * W * d))
-one-step F P W N D d r S G g earns gain bias =
+step_bound F P W N D d r S G g earns gain bias =
     let a1 = over F (pos (P * W) *ℤ r) S in
     let a2 = stage F P W r in
     let a3 = mono P (pos N *ℤ (pos W *ℤ g)) (pos N *ℤ G) (mono N (pos W *ℤ g) G gain) in
@@ -61,20 +62,20 @@ module _ (T : Table) (F : ℕ) (p : Plan) (g : ℕ → ℤ) (d : ℕ → ℕ) (l
       let e1 : pos F *ℤ pos 0 ≡ pos 0 = *ℤ-zero (pos F) in
       let e2 : pos (T.denominator ^ 0) *ℤ z ≡ pos 1 *ℤ z = ap (λ (k : ℕ). pos k *ℤ z) (pow-zero T.denominator) in
       let e3 = once z in
-      let e4 = none (g s) in
+      let e4 = zero-*ℤ (g s) in
       omega (arith, lin)
   bound (suc N) s past h =
       let c = p s in
       let P = T.denominator ^ N in
       let earns = behind_down N s c (s ∷ past) (λ b l. bound N (successor T s c b) (s ∷ past) (law.successors s c b h (plans s h) l)) in
       rw (pow-suc T.denominator N)
-      (one-step F P T.denominator N (branch_sum_n T s c d) (d s) (T.reward s c) (branch_sum_z T s c (λ u. scaled_reward T (follow p) N u (s ∷ past))) (branch_sum_z T s c g) (g s)
+      (step_bound F P T.denominator N (branch_sum_n T s c d) (d s) (T.reward s c) (branch_sum_z T s c (λ u. scaled_reward T (follow p) N u (s ∷ past))) (branch_sum_z T s c g) (g s)
       earns (cert.gain s h) (cert.bias s h))
 
 less : (P d : ℕ) (a z : ℤ) → (pos P *ℤ a) ≤ℤ (z +ℤ pos (P * d)) → (pos P *ℤ (a -ℤ pos d)) ≤ℤ z
 less P d a z h = let e1 = over P a (neg_ℤ (pos d)) in let e2 = over_neg P (pos d) in omega (arith, lin)
 
-pub lower-certificate-bounds : LowerCertificateBounds
+pub bound_of_lower_certificate : LowerCertificateBounds
 unfolding Bound
-lower-certificate-bounds T F p g d law plans cert N s past h =
+bound_of_lower_certificate T F p g d law plans cert N s past h =
     less (T.denominator ^ N) (d s) (pos N *ℤ g s) (pos F *ℤ scaled_reward T (follow p) N s past) (bound T F p g d law plans cert N s past h)

@@ -1,95 +1,94 @@
--- Division toward zero, as the machine divides, and the two roundings
-use Rattle.std.proofs.Common.{◌≡◌, ℕ, suc, ◌-◌, ◌*◌, ◌/◌, ◌^◌, ◌<◌, ◌≤◌, ℤ, pos, negsuc, ◌+ℤ◌, ◌-ℤ◌, ◌*ℤ◌, neg_ℤ, ◌≤ℤ◌, ◌<ℤ◌, ◌∙◌, ap₂, mul-le-mul_right, mod-lt, mul-one, div-le_self, arith, w64, SFits, to_z, of_z}
-use native.Mathlib.Nat.{mod-add-div}
-use lib.Signed.{quot_z, rem_z, mag_rem}
-use Rattle.std.proofs.lemmas.Int.{ints, to_z-of_z}
+-- Division toward zero, and the two roundings
+use Rattle.std.proofs.Common.{◌≡◌, ℕ, ◌-◌, ◌*◌, ◌^◌, ◌≤◌, ℤ, pos, ◌+ℤ◌, ◌-ℤ◌, ◌*ℤ◌, neg_ℤ, ◌≤ℤ◌, ◌<ℤ◌, int_div, int_rem, ◌∙◌, ⊎_elim, mul-le-mul_right, mul-one, arith, w64, SFits}
+use Rattle.std.proofs.lemmas.Bool.{cases_eq}
+use Rattle.std.proofs.lemmas.Int.{ints, quot-rem, rem_below}
+use Rattle.std.proofs.Math.IntN.{*ℤ_comm}
+use borrow.Author.Differences.{abs_is}
 use Rattle.horizon.specs.Means.{round_down, round_up}
-use Rattle.horizon.specs.Ring.{lin, over, over_neg, cancel}
-use Rattle.horizon.specs.Rounding.{down_below, down_most, up_above, up_least, down_is, up_is}
+use Rattle.horizon.specs.Ring.{lin, over, over_neg}
+use Rattle.horizon.specs.Rounding.{down_most, down_none, up_least, up_none, down_is, up_is}
 
--- z = W × quotient + remainder, and the remainder is less than W off 0
-pub quotient_is : (z : ℤ) (W : ℕ) → z ≡ (pos W *ℤ quot_z z (pos W)) +ℤ rem_z z (pos W)
-quotient_is (pos a) W = let e = mod-add-div a W in omega (arith, lin)
-quotient_is (negsuc a) W = let e = mod-add-div (suc a) W in let o = over_neg W (pos (suc a / W)) in omega (arith, lin)
+-- a quotient toward zero and its remainder, both 0 where the denominator is 0
+module _ (z : ℤ) (W : ℕ) (q r : ℤ) (none : W ≡ 0 → (q ≡ pos 0) × (r ≡ pos 0))
+    (whole : 1 ≤ W → q ≡ int_div z (pos W)) (rest : 1 ≤ W → r ≡ int_rem z (pos W)) where
+  -- z = W × q + r, and r is less than W off 0
+  parts : 1 ≤ W → (z ≡ (pos W *ℤ q) +ℤ r) × (r <ℤ pos W) × (pos 0 <ℤ (r +ℤ pos W))
+  parts h =
+      let a = whole h in
+      let b = rest h in
+      let e = quot-rem z (pos W) in
+      let c = *ℤ_comm (int_div z (pos W)) (pos W) in
+      let n = rem_below z (pos W) h in
+      (rw a (rw b (omega (arith, lin))), omega (arith, lin, abs_is), omega (arith, lin, abs_is))
 
-pub remainder_near : (z : ℤ) (W : ℕ) → 1 ≤ W → (rem_z z (pos W) <ℤ pos W) × (pos 0 <ℤ (rem_z z (pos W) +ℤ pos W))
-remainder_near (pos a) W h = let l = mod-lt a {m = W} h in (omega (arith, lin), omega (arith, lin))
-remainder_near (negsuc a) W h = let l = mod-lt (suc a) {m = W} h in (omega (arith, lin), omega (arith, lin))
+  -- where something remains the denominator is not 0
+  divides : (r ≡ pos 0 → ⊥) → 1 ≤ W
+  divides n = ⊎_elim (λ (e : W ≡ 0). absurd (n (none e).1)) (λ (e : W ≡ 0 → ⊥). omega arith) (cases_eq W 0)
 
-module _ (z : ℤ) (W : ℕ) (h : 1 ≤ W) where
-  pub up_more : pos 0 <ℤ rem_z z (pos W) → quot_z z (pos W) +ℤ pos 1 ≡ round_up z W
+  pub up_more : pos 0 <ℤ r → q +ℤ pos 1 ≡ round_up z W
   up_more l =
-      let q = quotient_is z W in
-      let r = remainder_near z W h in
-      let o = over W (quot_z z (pos W)) (pos 1) in
+      let h = divides (λ e. omega (arith, lin)) in
+      let p = parts h in
+      let p0 = p.0 in
+      let p1 = p.1 in
+      let o = over W q (pos 1) in
       let u = mul-one W in
-      let r0 = r.0 in
-      up_is z (quot_z z (pos W) +ℤ pos 1) W h (omega (arith, lin)) (omega (arith, lin))
+      up_is z (q +ℤ pos 1) W h (omega (arith, lin)) (omega (arith, lin))
 
-  pub up_same : rem_z z (pos W) ≤ℤ pos 0 → quot_z z (pos W) ≡ round_up z W
+  pub up_same : r ≤ℤ pos 0 → q ≡ round_up z W
   up_same l =
-      let q = quotient_is z W in
-      let r = remainder_near z W h in
-      let r1 = r.1 in
-      up_is z (quot_z z (pos W)) W h (omega (arith, lin)) (omega (arith, lin))
+      ⊎_elim
+      (λ (e : W ≡ 0). (none e).0 ∙ up_none z W e)
+      (λ (e : W ≡ 0 → ⊥).
+      let h : 1 ≤ W = omega arith in
+      let p = parts h in
+      let p0 = p.0 in
+      let p2 = p.2 in
+      up_is z q W h (omega (arith, lin)) (omega (arith, lin)))
+      (cases_eq W 0)
 
-  pub down_less : rem_z z (pos W) <ℤ pos 0 → quot_z z (pos W) -ℤ pos 1 ≡ round_down z W
+  pub down_less : r <ℤ pos 0 → q -ℤ pos 1 ≡ round_down z W
   down_less l =
-      let q = quotient_is z W in
-      let r = remainder_near z W h in
-      let o = over W (quot_z z (pos W)) (neg_ℤ (pos 1)) in
+      let h = divides (λ e. omega (arith, lin)) in
+      let p = parts h in
+      let p0 = p.0 in
+      let p2 = p.2 in
+      let o = over W q (neg_ℤ (pos 1)) in
       let n = over_neg W (pos 1) in
       let u = mul-one W in
-      let r1 = r.1 in
-      down_is z (quot_z z (pos W) -ℤ pos 1) W h (omega (arith, lin)) (omega (arith, lin))
+      down_is z (q -ℤ pos 1) W h (omega (arith, lin)) (omega (arith, lin))
 
-  pub down_same : pos 0 ≤ℤ rem_z z (pos W) → quot_z z (pos W) ≡ round_down z W
+  pub down_same : pos 0 ≤ℤ r → q ≡ round_down z W
   down_same l =
-      let q = quotient_is z W in
-      let r = remainder_near z W h in
-      let r0 = r.0 in
-      down_is z (quot_z z (pos W)) W h (omega (arith, lin)) (omega (arith, lin))
+      ⊎_elim
+      (λ (e : W ≡ 0). (none e).0 ∙ down_none z W e)
+      (λ (e : W ≡ 0 → ⊥).
+      let h : 1 ≤ W = omega arith in
+      let p = parts h in
+      let p0 = p.0 in
+      let p1 = p.1 in
+      down_is z q W h (omega (arith, lin)) (omega (arith, lin)))
+      (cases_eq W 0)
 
--- a number that fits 64 bits is rounded to one that does
-module _ (z : ℤ) (W : ℕ) (h : 1 ≤ W) (fits : SFits w64 z) where
-  down_least : neg_ℤ (pos (2 ^ 63)) ≤ℤ round_down z W
+-- what 64 bits hold is rounded up to no more than they hold, and down to no less
+module _ (z : ℤ) (W : ℕ) (fits : SFits w64 z) where
+  pub up_greatest : round_up z W ≤ℤ pos (2 ^ 63 - 1)
+  up_greatest =
+      ⊎_elim
+      (λ (e : W ≡ 0). let n = up_none z W e in omega (arith, lin))
+      (λ (e : W ≡ 0 → ⊥).
+      let h : 1 ≤ W = omega arith in
+      let m : 1 * (2 ^ 63 - 1) ≤ W * (2 ^ 63 - 1) = mul-le-mul_right (2 ^ 63 - 1) h in
+      up_least z (pos (2 ^ 63 - 1)) W h (omega (arith, ints)))
+      (cases_eq W 0)
+
+  pub down_least : neg_ℤ (pos (2 ^ 63)) ≤ℤ round_down z W
   down_least =
+      ⊎_elim
+      (λ (e : W ≡ 0). let n = down_none z W e in omega (arith, lin))
+      (λ (e : W ≡ 0 → ⊥).
+      let h : 1 ≤ W = omega arith in
       let n = over_neg W (pos (2 ^ 63)) in
       let m : 1 * 2 ^ 63 ≤ W * 2 ^ 63 = mul-le-mul_right (2 ^ 63) h in
-      down_most z (neg_ℤ (pos (2 ^ 63))) W h (omega (arith, ints))
-
-  up_greatest : round_up z W ≤ℤ pos (2 ^ 63 - 1)
-  up_greatest =
-      let m : 1 * (2 ^ 63 - 1) ≤ W * (2 ^ 63 - 1) = mul-le-mul_right (2 ^ 63 - 1) h in
-      up_least z (pos (2 ^ 63 - 1)) W h (omega (arith, ints))
-
-  ordered : round_down z W ≤ℤ round_up z W
-  ordered = let a = down_below z W h in let b = up_above z W h in cancel W (round_down z W) (round_up z W) h (omega (arith, lin))
-
-  pub up_fits : SFits w64 (round_up z W)
-  up_fits = let a = down_least in let b = up_greatest in let o = ordered in omega (arith, ints)
-
-  pub down_fits : SFits w64 (round_down z W)
-  down_fits = let a = down_least in let b = up_greatest in let o = ordered in omega (arith, ints)
-
-pub quotient_fits : (z : ℤ) (W : ℕ) → SFits w64 z → SFits w64 (quot_z z (pos W))
-quotient_fits (pos a) W f = let l = div-le_self a W in omega (arith, ints)
-quotient_fits (negsuc a) W f = let l = div-le_self (suc a) W in omega (arith, ints)
-
-remainder_fits : (z : ℤ) (W : ℕ) → SFits w64 z → SFits w64 (rem_z z (pos W))
-remainder_fits z W f = let l = mag_rem z (pos W) in let m = f.sfits in record { sfits = omega arith }
-
--- what the machine computes from z and the divisor d, which is W
-module _ (z d : ℤ) (W : ℕ) (fits : SFits w64 z) (same : d ≡ pos W) (small : W < 2 ^ 32) where
-  divisor : to_z w64 (of_z w64 d) ≡ pos W
-  divisor = omega (arith, ints)
-
-  pub machine_remainder : to_z w64 (of_z w64 (rem_z (to_z w64 (of_z w64 z)) (to_z w64 (of_z w64 d)))) ≡ rem_z z (pos W)
-  machine_remainder =
-      ap₂ (λ (a b : ℤ). to_z w64 (of_z w64 (rem_z a b))) (to_z-of_z w64 z fits) divisor
-      ∙ to_z-of_z w64 (rem_z z (pos W)) (remainder_fits z W fits)
-
-  pub machine_quotient : to_z w64 (of_z w64 (quot_z (to_z w64 (of_z w64 z)) (to_z w64 (of_z w64 d)))) ≡ quot_z z (pos W)
-  machine_quotient =
-      ap₂ (λ (a b : ℤ). to_z w64 (of_z w64 (quot_z a b))) (to_z-of_z w64 z fits) divisor
-      ∙ to_z-of_z w64 (quot_z z (pos W)) (quotient_fits z W fits)
+      down_most z (neg_ℤ (pos (2 ^ 63))) W h (omega (arith, ints)))
+      (cases_eq W 0)

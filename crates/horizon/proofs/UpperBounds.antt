@@ -9,7 +9,7 @@ use Rattle.horizon.specs.Potential.{potential, RewardsBetween, step_cost, consta
 use Rattle.horizon.specs.Upper.{InsideChoice, LeavingChoice, UpperHypotheses, UpperTheorem}
 use Rattle.horizon.specs.Ring.{lin, over, times, mono, apart}
 use Rattle.horizon.specs.SumsLemmas.{weighted_n_mono, weighted_n_cong, weighted_z_cong}
-use Rattle.horizon.proofs.UpperCertificates.{upper-certificate-bounds}
+use Rattle.horizon.proofs.UpperCertificates.{bound_of_upper_certificate}
 use Rattle.horizon.specs.Branches.{branch_sum_n_const, branch_sum_z_const, branch_sum_n_mix}
 use Rattle.horizon.proofs.Potentials.{below_top, falls, covers}
 
@@ -104,7 +104,7 @@ module _ (T : Table) (F D H : ℕ) (low high : ℤ) (node depth : ℕ → ℕ) (
   bound : (σ : Strategy) → Names T σ → (N s : ℕ) (past : List ℕ) → StatesOnly T (s ∷ past)
       → (pos F *ℤ scaled_reward T σ N s past) ≤ℤ (pos (T.denominator ^ N) *ℤ ((pos N *ℤ x (node s)) +ℤ pos (constant T.denominator F D H low high)))
   bound σ names N s past h =
-      let a1 = upper-certificate-bounds T F (λ u. x (node u)) bias law certificate σ names N s past h in
+      let a1 = bound_of_upper_certificate T F (λ u. x (node u)) bias law certificate σ names N s past h in
       let a2 = bias_most s h.0 in
       let C = constant T.denominator F D H low high in
       let g : ℤ = pos N *ℤ x (node s) in
@@ -112,6 +112,6 @@ module _ (T : Table) (F D H : ℕ) (low high : ℤ) (node depth : ℕ → ℕ) (
       let a4 = mono (T.denominator ^ N) (g +ℤ pos (bias s)) (g +ℤ pos C) a3 in
       omega (arith, lin)
 
-pub upper-theorem : UpperTheorem
-upper-theorem T F D H low high node depth x t law rewards hypotheses σ names N s past h =
+pub bound_of_upper_values : UpperTheorem
+bound_of_upper_values T F D H low high node depth x t law rewards hypotheses σ names N s past h =
     bound T F D H low high node depth x t law rewards hypotheses σ names N s past h

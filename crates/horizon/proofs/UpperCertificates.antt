@@ -2,12 +2,13 @@
 use Rattle.std.proofs.Common.{◌≡◌, ℕ, zero, suc, ◌*◌, ◌^◌, ◌<◌, List, ◌∷◌, ℤ, pos, ◌+ℤ◌, ◌*ℤ◌, ◌≤ℤ◌, sym, ap, ◌∙◌, mul_assoc, mul_comm, pow-suc, arith}
 use native.Mathlib.Nat.{pow-zero}
 use lib.IntN.{*ℤ-zero}
+use Rattle.std.proofs.Math.IntN.{zero-*ℤ}
 use Rattle.table.specs.Table.{Table, successor, weight}
 use Rattle.table.specs.Limits.{Lawful}
 use Rattle.horizon.specs.Sums.{weighted_z, branch_sum_n, branch_sum_z}
 use Rattle.horizon.specs.Strategies.{Strategy, StatesOnly, Names, scaled_reward}
 use Rattle.horizon.specs.Certificates.{UpperCertificate, UpperCertificateBounds}
-use Rattle.horizon.specs.Ring.{lin, none, more, once, over, times, swap, mono}
+use Rattle.horizon.specs.Ring.{lin, more, once, over, times, swap, mono}
 use Rattle.horizon.specs.SumsLemmas.{weighted_z_mono, weighted_z_add, weighted_z_scale, weighted_z_pos}
 
 -- W^(N+1) × F × r in two orders
@@ -26,12 +27,12 @@ turns W N g d =
     omega (arith, lin)
 
 -- one step: S is what the branches earn, G and D are the gain and the bias behind them, each W-fold
-one-step : (F P W N D d : ℕ) (r S G g : ℤ)
+step_bound : (F P W N D d : ℕ) (r S G g : ℤ)
     → (pos F *ℤ S) ≤ℤ (pos P *ℤ ((pos N *ℤ G) +ℤ pos D))
     → G ≤ℤ (pos W *ℤ g)
     → ((pos (W * F) *ℤ r) +ℤ pos D) ≤ℤ (pos W *ℤ (g +ℤ pos d))
     → (pos F *ℤ ((pos (P * W) *ℤ r) +ℤ S)) ≤ℤ (pos (P * W) *ℤ ((pos (suc N) *ℤ g) +ℤ pos d))
-one-step F P W N D d r S G g earns gain bias =
+step_bound F P W N D d r S G g earns gain bias =
     let a1 = over F (pos (P * W) *ℤ r) S in
     let a2 = stage F P W r in
     let a3 = mono N G (pos W *ℤ g) gain in
@@ -76,7 +77,7 @@ module _ (T : Table) (F : ℕ) (g : ℕ → ℤ) (d : ℕ → ℕ) (law : Lawful
       let e1 : pos F *ℤ pos 0 ≡ pos 0 = *ℤ-zero (pos F) in
       let e2 : pos (T.denominator ^ 0) *ℤ z ≡ pos 1 *ℤ z = ap (λ (k : ℕ). pos k *ℤ z) (pow-zero T.denominator) in
       let e3 = once z in
-      let e4 = none (g s) in
+      let e4 = zero-*ℤ (g s) in
       omega (arith, lin)
   bound (suc N) s past h =
       let c = σ (s ∷ past) in
@@ -85,9 +86,9 @@ module _ (T : Table) (F : ℕ) (g : ℕ → ℤ) (d : ℕ → ℕ) (law : Lawful
       let P = T.denominator ^ N in
       let earns = behind_up N s c (s ∷ past) (λ b l. bound N (successor T s c b) (s ∷ past) (law.successors s c b here named l, h)) in
       rw (pow-suc T.denominator N)
-      (one-step F P T.denominator N (branch_sum_n T s c d) (d s) (T.reward s c) (branch_sum_z T s c (λ u. scaled_reward T σ N u (s ∷ past))) (branch_sum_z T s c g) (g s)
+      (step_bound F P T.denominator N (branch_sum_n T s c d) (d s) (T.reward s c) (branch_sum_z T s c (λ u. scaled_reward T σ N u (s ∷ past))) (branch_sum_z T s c g) (g s)
       earns (cert.gain s c here named) (cert.bias s c here named))
 
-pub upper-certificate-bounds : UpperCertificateBounds
+pub bound_of_upper_certificate : UpperCertificateBounds
 unfolding Bound
-upper-certificate-bounds T F g d law cert σ names N s past h = bound T F g d law cert σ names N s past h
+bound_of_upper_certificate T F g d law cert σ names N s past h = bound T F g d law cert σ names N s past h

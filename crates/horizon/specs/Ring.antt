@@ -1,19 +1,12 @@
 -- Integers: linear facts, and the laws of `pos n *ℤ z`, a natural number times an integer.
-use Rattle.std.specs.Prelude.{◌≡◌, ℕ, zero, suc, ◌+◌, ◌*◌, ◌≤◌, true, false, ◌⊎◌, ℤ, pos, ◌+ℤ◌, ◌-ℤ◌, ◌*ℤ◌, neg_ℤ, ◌≤ℤ◌, ◌<ℤ◌, int_lt, unsigned_abs}
-use Rattle.std.proofs.Common.{sym, ap, ◌∙◌, inl, inr, ⊎_elim, arith, mul_comm, mul-one, zero-mul, suc-mul}
+use Rattle.std.specs.Prelude.{◌≡◌, ℕ, zero, suc, ◌+◌, ◌*◌, ◌≤◌, ℤ, pos, ◌+ℤ◌, ◌-ℤ◌, ◌*ℤ◌, neg_ℤ, ◌≤ℤ◌, ◌<ℤ◌, unsigned_abs}
+use Rattle.std.proofs.Common.{sym, ap, ◌∙◌, arith, mul_comm, mul-one, zero-mul, suc-mul}
 use Rattle.std.proofs.Math.IntN.{zero-*ℤ, suc_ℤ-*ℤ}
 use borrow.Author.Differences.{same_out, le_out, lt_out, lt-true, lt-false, le-true, le-false, same_in, at_most_in, below_in, sum_is_lem, neg_is, abs_is}
-use Rattle.std.proofs.lemmas.Bool.{cases_Bool}
+use Rattle.std.proofs.lemmas.Int.{by_lt_z}
 
 -- `omega (arith, lin)`: linear facts over ℤ, where a product is an unknown
 pub ruleset lin = (same_out, le_out, lt_out, lt-true, lt-false, le-true, le-false, same_in, at_most_in, below_in, sum_is_lem, neg_is)
-
-pub cases_Z : (a b : ℤ) → (a <ℤ b) ⊎ (b ≤ℤ a)
-cases_Z a b =
-    ⊎_elim
-    (λ (e : int_lt a b ≡ true). inl (omega (arith, lin)))
-    (λ (e : int_lt a b ≡ false). inr (omega (arith, lin)))
-    (cases_Bool (int_lt a b))
 
 pub le_trans : (a b c : ℤ) → a ≤ℤ b → b ≤ℤ c → a ≤ℤ c
 le_trans a b c p q = omega (arith, lin)
@@ -21,29 +14,26 @@ le_trans a b c p q = omega (arith, lin)
 pub le_same : (a b : ℤ) → a ≡ b → a ≤ℤ b
 le_same a b e = omega (arith, lin)
 
--- 0 × z, (n + 1) × z and 1 × z
-pub none : (z : ℤ) → pos 0 *ℤ z ≡ pos 0
-none z = zero-*ℤ z
-
+-- (n + 1) × z and 1 × z
 pub more : (n : ℕ) (z : ℤ) → pos (suc n) *ℤ z ≡ (pos n *ℤ z) +ℤ z
 more n z = suc_ℤ-*ℤ (pos n) z
 
 pub once : (z : ℤ) → pos 1 *ℤ z ≡ z
-once z = let e1 = more 0 z in let e2 = none z in omega (arith, lin)
+once z = let e1 = more 0 z in let e2 = zero-*ℤ z in omega (arith, lin)
 
 -- n × (a + b) and n × (- a)
 pub over : (n : ℕ) (a b : ℤ) → pos n *ℤ (a +ℤ b) ≡ (pos n *ℤ a) +ℤ (pos n *ℤ b)
-over zero a b = let e1 = none a in let e2 = none b in let e3 = none (a +ℤ b) in omega (arith, lin)
+over zero a b = let e1 = zero-*ℤ a in let e2 = zero-*ℤ b in let e3 = zero-*ℤ (a +ℤ b) in omega (arith, lin)
 over (suc n) a b =
     let e1 = more n a in let e2 = more n b in let e3 = more n (a +ℤ b) in let e4 = over n a b in omega (arith, lin)
 
 pub over_neg : (n : ℕ) (a : ℤ) → pos n *ℤ neg_ℤ a ≡ neg_ℤ (pos n *ℤ a)
-over_neg zero a = let e1 = none a in let e2 = none (neg_ℤ a) in omega (arith, lin)
+over_neg zero a = let e1 = zero-*ℤ a in let e2 = zero-*ℤ (neg_ℤ a) in omega (arith, lin)
 over_neg (suc n) a = let e1 = more n a in let e2 = more n (neg_ℤ a) in let e3 = over_neg n a in omega (arith, lin)
 
 -- (m + n) × z, m × (n × z), and the order of two factors
 pub join : (m n : ℕ) (z : ℤ) → (pos m *ℤ z) +ℤ (pos n *ℤ z) ≡ pos (m + n) *ℤ z
-join zero n z = let e1 = none z in let e2 : pos (zero + n) *ℤ z ≡ pos n *ℤ z = ap (λ (k : ℕ). pos k *ℤ z) (omega arith) in omega (arith, lin)
+join zero n z = let e1 = zero-*ℤ z in let e2 : pos (zero + n) *ℤ z ≡ pos n *ℤ z = ap (λ (k : ℕ). pos k *ℤ z) (omega arith) in omega (arith, lin)
 join (suc m) n z =
     let e1 = more m z in
     let e2 = more (m + n) z in
@@ -53,8 +43,8 @@ join (suc m) n z =
 
 pub times : (m n : ℕ) (z : ℤ) → pos m *ℤ (pos n *ℤ z) ≡ pos (m * n) *ℤ z
 times zero n z =
-    let e1 = none z in
-    let e2 = none (pos n *ℤ z) in
+    let e1 = zero-*ℤ z in
+    let e2 = zero-*ℤ (pos n *ℤ z) in
     let e3 : pos (zero * n) *ℤ z ≡ pos 0 *ℤ z = ap (λ (k : ℕ). pos k *ℤ z) (zero-mul n) in
     omega (arith, lin)
 times (suc m) n z =
@@ -69,12 +59,12 @@ swap m n z = times m n z ∙ ap (λ (k : ℕ). pos k *ℤ z) (mul_comm m n) ∙ 
 
 -- order: a factor keeps it, and a factor that is not 0 can be left out
 pub mono : (n : ℕ) (a b : ℤ) → a ≤ℤ b → (pos n *ℤ a) ≤ℤ (pos n *ℤ b)
-mono zero a b h = let e1 = none a in let e2 = none b in omega (arith, lin)
+mono zero a b h = let e1 = zero-*ℤ a in let e2 = zero-*ℤ b in omega (arith, lin)
 mono (suc n) a b h = let e1 = more n a in let e2 = more n b in let e3 = mono n a b h in omega (arith, lin)
 
 pub cancel : (n : ℕ) (a b : ℤ) → 1 ≤ n → (pos n *ℤ a) ≤ℤ (pos n *ℤ b) → a ≤ℤ b
 cancel n a b h l =
-    ⊎_elim
+    by_lt_z b a
     (λ (k : b <ℤ a).
     let e : (b +ℤ pos 1) ≤ℤ a = omega (arith, lin) in
     let m = mono n (b +ℤ pos 1) a e in
@@ -83,7 +73,6 @@ cancel n a b h l =
     let z : ⊥ = omega (arith, lin) in
     absurd z)
     (λ (k : a ≤ℤ b). k)
-    (cases_Z b a)
 
 -- the distance of two integers reaches from one to the other
 pub apart : (low high : ℤ) → high ≤ℤ (low +ℤ pos (unsigned_abs (high -ℤ low)))

@@ -4,8 +4,9 @@ use Rattle.std.proofs.Common.{ap, ⊎_elim, arith, mul-suc, mul_comm, mul-one}
 use Rattle.std.proofs.Math.Nat.{mul-div-le, lt-div-mul-add}
 use Rattle.std.proofs.lemmas.Nat.{mul-le}
 use Rattle.std.proofs.lemmas.Bool.{cases_eq}
+use Rattle.std.proofs.lemmas.Int.{by_lt_z}
 use Rattle.horizon.specs.Means.{round_down, round_up, Within}
-use Rattle.horizon.specs.Ring.{lin, over, over_neg, mono, cancel, cases_Z}
+use Rattle.horizon.specs.Ring.{lin, over, over_neg, mono, cancel}
 
 rest : (a W : ℕ) → 1 ≤ W → a < W * (a / W) + W
 rest a W h = let e = lt-div-mul-add {a = a} {b = W} h in let c = mul_comm (a / W) W in omega arith
@@ -35,7 +36,7 @@ up_none z W e = ap neg_ℤ (down_none (neg_ℤ z) W e)
 -- less than one step apart, W-fold
 within : (W : ℕ) (a b : ℤ) → 1 ≤ W → (pos W *ℤ a) <ℤ ((pos W *ℤ b) +ℤ pos W) → a ≤ℤ b
 within W a b h l =
-    ⊎_elim
+    by_lt_z b a
     (λ (k : b <ℤ a).
     let e : (b +ℤ pos 1) ≤ℤ a = omega (arith, lin) in
     let m = mono W (b +ℤ pos 1) a e in
@@ -44,7 +45,6 @@ within W a b h l =
     let z : ⊥ = omega (arith, lin) in
     absurd z)
     (λ (k : a ≤ℤ b). k)
-    (cases_Z b a)
 
 -- the largest number below, the smallest above
 pub down_most : (z k : ℤ) (W : ℕ) → 1 ≤ W → (pos W *ℤ k) ≤ℤ z → k ≤ℤ round_down z W

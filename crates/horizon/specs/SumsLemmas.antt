@@ -2,9 +2,10 @@
 use Rattle.std.specs.Prelude.{◌≡◌, ℕ, zero, suc, ◌+◌, ◌*◌, ◌<◌, ◌≤◌, ℤ, pos, ◌+ℤ◌, ◌*ℤ◌, neg_ℤ, ◌≤ℤ◌, refl}
 use Rattle.std.proofs.Common.{sym, ap, ap₂, add-one, arith, mul-add, add-mul, mul_left_comm, mul-le-mul_left, mul-le-mul_right, zero-mul, mul-zero}
 use Rattle.std.proofs.Math.Decide.{ℕ_discrete}
+use Rattle.std.proofs.Math.IntN.{zero-*ℤ}
 use Rattle.table.specs.Sums.{sum_n}
 use Rattle.horizon.specs.Sums.{sum_z, weighted_n, weighted_z}
-use Rattle.horizon.specs.Ring.{lin, none, over, over_neg, join, swap, mono}
+use Rattle.horizon.specs.Ring.{lin, over, over_neg, join, swap, mono}
 
 -- one more term, as a loop adds it
 pub sum_n_more : (k : ℕ) (f : ℕ → ℕ) → sum_n (k + 1) f ≡ sum_n k f + f k
@@ -75,7 +76,7 @@ weighted_z_neg zero w f = refl
 weighted_z_neg (suc k) w f = let ih = weighted_z_neg k w f in let e = over_neg (w k) (f k) in omega (arith, lin)
 
 pub weighted_z_const : (k : ℕ) (w : ℕ → ℕ) (z : ℤ) → weighted_z k w (λ b. z) ≡ pos (sum_n k w) *ℤ z
-weighted_z_const zero w z = sym (none z)
+weighted_z_const zero w z = sym (zero-*ℤ z)
 weighted_z_const (suc k) w z = let ih = weighted_z_const k w z in let e = join (sum_n k w) (w k) z in omega (arith, lin)
 
 -- over naturals it is the natural weighted sum

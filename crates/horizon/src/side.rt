@@ -1,4 +1,4 @@
-ghost use Rattle.std.specs.Prelude.{◌≡◌, ℕ, ℤ, ◌≤ℤ◌};
+ghost use Rattle.std.specs.Prelude.{◌≡◌, ℕ, ◌≤◌, ℤ, pos, ◌≤ℤ◌, int_div, int_rem};
 ghost use Rattle.horizon.specs.Means.{round_down, round_up, OnSide, KeepsEqual, Monotone, Near, Within};
 ghost use Rattle.horizon.specs.Sums.{branch_sum_z};
 ghost use Rattle.horizon.specs.Rounding.{up_above, up_exact, up_mono, up_within, down_below, down_exact, down_mono, down_within};
@@ -33,10 +33,25 @@ pub trait Side {
 }
 
 // The upper side rounds up.
+#[derive(Clone, Copy, PartialEq, Eq, Debug)]
 pub struct UpperSide;
 
 // The lower side rounds toward minus infinity.
+#[derive(Clone, Copy, PartialEq, Eq, Debug)]
 pub struct LowerSide;
+
+// The quotient toward zero and what remains, both 0 where the denominator is 0. A side moves the quotient by one at most.
+fn divided(total: i64, denominator: u32) -> (i64, i64)
+    ensures zero { denominator ≡ 0 → (result.0 ≡ pos 0) × (result.1 ≡ pos 0) }
+    ensures whole { 1 ≤ denominator → result.0 ≡ int_div total (pos denominator) }
+    ensures rest { 1 ≤ denominator → result.1 ≡ int_rem total (pos denominator) }
+{
+    if denominator == 0 {
+        return (0, 0);
+    }
+    let divisor = i64::from(denominator);
+    (total / divisor, total % divisor)
+}
 
 impl Side for UpperSide {
     ghost beside = { λ exact mean. exact ≤ℤ mean };
@@ -54,16 +69,8 @@ impl Side for UpperSide {
     ghost within = { up_within };
 
     fn round(total: i64, denominator: u32) -> i64 {
-        if denominator == 0 {
-            return 0;
-        }
-        let divisor = i64::from(denominator);
-        let whole = total / divisor;
-        if total % divisor > 0 {
-            whole + 1
-        } else {
-            whole
-        }
+        let (whole, rest) = divided(total, denominator);
+        if rest > 0 { whole + 1 } else { whole }
     }
 }
 
@@ -83,15 +90,7 @@ impl Side for LowerSide {
     ghost within = { down_within };
 
     fn round(total: i64, denominator: u32) -> i64 {
-        if denominator == 0 {
-            return 0;
-        }
-        let divisor = i64::from(denominator);
-        let whole = total / divisor;
-        if total % divisor < 0 {
-            whole - 1
-        } else {
-            whole
-        }
+        let (whole, rest) = divided(total, denominator);
+        if rest < 0 { whole - 1 } else { whole }
     }
 }

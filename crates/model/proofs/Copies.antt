@@ -1,23 +1,15 @@
 -- The steps of a copy, and that the copied rows stand for the table.
-use Rattle.std.proofs.Common.{◌≡◌, ℕ, ◌+◌, ◌<◌, ◌≤◌, List, [], ◌∷◌, ◌++◌, map, length, get_or, sym, ap, ◌∙◌, subst, ap₂, ⊎_elim, arith}
+use Rattle.std.proofs.Common.{◌≡◌, ℕ, ◌+◌, ◌-◌, ◌<◌, ◌≤◌, ltb, leb, List, [], ◌∷◌, ◌++◌, map, length, get_or, sym, ap, ◌∙◌, subst, ap₂, ⊎_elim, arith}
 use Rattle.std.specs.List.{range_with_len}
-use Rattle.std.proofs.lemmas.List.{get_or_past, get_or_append_left, get_or-append-add, length-append, append_assoc}
-use Rattle.std.proofs.lemmas.List.FromFn.{map-range_with_len_more, get_or-map-range_with_len, length-map-range_with_len}
-use Rattle.std.proofs.lemmas.Bool.{cases_eq, cases_lt}
+use Rattle.std.proofs.lemmas.List.{get_or_default, get_or_append_left, get_or-append-add, length-append, append_assoc}
+use Rattle.std.proofs.lemmas.List.FromFn.{get_or-map-range_with_len, length-map-range_with_len}
+use Rattle.std.proofs.lemmas.Bool.{cases_eq, cases_lt, cond-true, cond-false, lt-ltb, le-ltb, le-leb}
 use Rattle.table.specs.Table.{Table, ZeroOutside}
-use Rattle.model.specs.Flat.{no_state, no_choice, state_at, choice_in, branch_in, flat_table}
-use Rattle.model.specs.Copy.{Extends, HoldsChoice, HoldsChoices, ChoicesCopied, HoldsState, StatesCopied}
-use Rattle.model.specs.declared.rows.StateRow.{StateRow}
-use Rattle.model.specs.declared.rows.ChoiceRow.{ChoiceRow}
-use Rattle.model.proofs.Flats.{run_at, run_past}
-
--- one more of a list that a function makes
-pub appended_more : {X : Type 0} (old items : List X) (f : ℕ → X) (k : ℕ) (x : X)
-    → items ≡ old ++ map f (range_with_len 0 k) → x ≡ f k → items ++ (x ∷ []) ≡ old ++ map f (range_with_len 0 (k + 1))
-appended_more old items f k x e q =
-    ap₂ (λ xs y. xs ++ (y ∷ [])) e q
-    ∙ append_assoc old (map f (range_with_len 0 k)) (f k ∷ [])
-    ∙ ap (λ xs. old ++ xs) (sym (map-range_with_len_more f 0 k k (omega arith)))
+use Rattle.table.specs.Limits.{Lawful}
+use Rattle.sources.specs.Rows.{run, no_state, no_choice, state_count, state_at, choice_count, choice_at, branch_count, branch_at, list_table}
+use Rattle.sources.specs.declared.list.StateRow.{StateRow}
+use Rattle.sources.specs.declared.list.ChoiceRow.{ChoiceRow}
+use Rattle.model.specs.Copy.{Extends, HoldsChoice, HoldsChoices, ChoicesCopied, HoldsState, Earned, StatesCopied}
 
 extends_at : {X : Type 0} {old new : List X} (d : X) (i : ℕ) → Extends old new → i < length old → get_or new i d ≡ get_or old i d
 extends_at {old = old} d i e h = ap (λ xs. get_or xs i d) e.is ∙ get_or_append_left old e.more d i h
@@ -111,8 +103,28 @@ module _ (T : Table) (k : ℕ) (row : StateRow) (states next : List StateRow) (o
         (λ (w : s ≡ k). subst (λ x. HoldsState T x (get_or next x no_state) new_c new_b) (sym w) new_row)
         (λ (w : s ≡ k → ⊥). old_row s (omega arith))
         (cases_eq s k);
+    earned = λ i d h. ⊎_elim (λ (l : i < length old_c). old_earned i d l) (λ (l : length old_c ≤ i). new_earned i d h l) (cases_lt i (length old_c));
   }
     where
+      old_earned : (i : ℕ) (d : ChoiceRow) → i < length old_c → Earned T (k + 1) (get_or new_c i d).reward
+      old_earned i d l =
+          let w = p.earned i d l in
+          (w.0, w.1, omega arith, w.3, w.4 ∙ ap (λ (r : ChoiceRow). r.reward) (sym (extends_at d i q.choices l)))
+
+      new_earned : (i : ℕ) (d : ChoiceRow) → i < length new_c → length old_c ≤ i → Earned T (k + 1) (get_or new_c i d).reward
+      new_earned i d h l =
+          let c : ℕ = i - length old_c in
+          let at : length old_c + c ≡ i = omega arith in
+          let m = q.size in
+          let few_c : c < T.choices k = omega arith in (
+            k,
+            c,
+            omega arith,
+            few_c,
+            sym (q.held.at c few_c).reward ∙ ap (λ (j : ℕ). (get_or new_c j no_choice).reward) at
+                ∙ ap (λ (r : ChoiceRow). r.reward) (get_or_default new_c i no_choice d h),
+          )
+
       long : length next ≡ length states + 1
       long = ap length e ∙ length-append states (row ∷ [])
 
@@ -137,19 +149,40 @@ module _ (T : Table) (k : ℕ) (row : StateRow) (states next : List StateRow) (o
 
 -- The copied rows stand for the table
 
-module _ (T : Table) (out : ZeroOutside T) (states : List StateRow) (choices : List ChoiceRow) (branches : List (ℕ × ℕ))
-    (p : StatesCopied T T.states states choices branches) where
-  row : ℕ → StateRow
-  row s = state_at states s
+-- a run within its list has all its places
+run_in : (first count size : ℕ) → first + count ≤ size → run first count size ≡ count
+run_in first count size h = cond-true (leb (first + count) size) count 0 (le-leb (first + count) size h)
 
-  count_same : (s : ℕ) → (row s).count ≡ T.choices s
-  unfolding row
-  count_same s =
+module _ (T : Table) (law : Lawful T) (out : ZeroOutside T) (states : List StateRow) (choices : List ChoiceRow)
+    (branches : List (ℕ × ℕ)) (p : StatesCopied T T.states states choices branches) where
+  pub states_same : state_count states choices branches ≡ T.states
+  states_same = let l = law.states.1 in let m = p.size in omega arith
+
+  pub row_is : (s : ℕ) → s < T.states → state_at states choices branches s ≡ get_or states s no_state
+  row_is s h =
+      let n = state_count states choices branches in
+      let l : s < n = subst (λ (x : ℕ). s < x) (sym states_same) h in
+      cond-true (ltb s n) (get_or states s no_state) no_state (lt-ltb s n l)
+
+  row_out : (s : ℕ) → T.states ≤ s → state_at states choices branches s ≡ no_state
+  row_out s h =
+      let n = state_count states choices branches in
+      let l : n ≤ s = subst (λ (x : ℕ). x ≤ s) (sym states_same) h in
+      cond-false (ltb s n) (get_or states s no_state) no_state (le-ltb s n l)
+
+  choices_same : (s : ℕ) → choice_count states choices branches s ≡ T.choices s
+  choices_same s =
       ⊎_elim
-      (λ (h : s < T.states). (p.at s h).count)
+      (λ (h : s < T.states).
+      let w = p.at s h in
+      let l = w.held.within in
+      let q = w.count in
+      let r = get_or states s no_state in
+      ap (λ (x : StateRow). run x.first x.count (length choices)) (row_is s h)
+      ∙ run_in r.first r.count (length choices) (omega arith) ∙ q)
       (λ (h : T.states ≤ s).
-      let m = p.size in
-      ap (λ (r : StateRow). r.count) (get_or_past states s no_state (omega arith)) ∙ sym (out.choices s h))
+      ap (λ (x : StateRow). run x.first x.count (length choices)) (row_out s h)
+      ∙ run_in 0 0 (length choices) (omega arith) ∙ sym (out.choices s h))
       (cases_lt s T.states)
 
   -- a state with a choice is a state of the table
@@ -157,33 +190,45 @@ module _ (T : Table) (out : ZeroOutside T) (states : List StateRow) (choices : L
   state_of s c h =
       ⊎_elim (λ (l : s < T.states). l) (λ (l : T.states ≤ s). let e = out.choices s l in absurd (omega arith)) (cases_lt s T.states)
 
-  choice_held : (s c : ℕ) → c < T.choices s → HoldsChoice T s c (choice_in choices (row s) c) branches
-  unfolding row
-  choice_held s c h =
-      let q = count_same s in
-      let l : c < (row s).count = omega arith in
-      subst (λ (r : ChoiceRow). HoldsChoice T s c r branches)
-      (sym (run_at choices no_choice (row s).first (row s).count c l))
-      ((p.at s (state_of s c h)).held.at c h)
+  -- the row of a choice
+  abbrev pub row_at : ℕ → ℕ → ChoiceRow
+  row_at s c = get_or choices ((get_or states s no_state).first + c) no_choice
 
-  choice_out : (s c : ℕ) → T.choices s ≤ c → choice_in choices (row s) c ≡ no_choice
+  pub choice_is : (s c : ℕ) → c < T.choices s → choice_at states choices branches s c ≡ row_at s c
+  choice_is s c h =
+      let n = choice_count states choices branches s in
+      let l : c < n = subst (λ (x : ℕ). c < x) (sym (choices_same s)) h in
+      cond-true (ltb c n) (get_or choices ((state_at states choices branches s).first + c) no_choice) no_choice (lt-ltb c n l)
+      ∙ ap (λ (x : StateRow). get_or choices (x.first + c) no_choice) (row_is s (state_of s c h))
+
+  choice_out : (s c : ℕ) → T.choices s ≤ c → choice_at states choices branches s c ≡ no_choice
   choice_out s c h =
-      let q = count_same s in
-      let l : (row s).count ≤ c = omega arith in
-      run_past choices no_choice (row s).first (row s).count c l
+      let n = choice_count states choices branches s in
+      let l : n ≤ c = subst (λ (x : ℕ). x ≤ c) (sym (choices_same s)) h in
+      cond-false (ltb c n) (get_or choices ((state_at states choices branches s).first + c) no_choice) no_choice (le-ltb c n l)
 
-  reward_same : (s c : ℕ) → (choice_in choices (row s) c).reward ≡ T.reward s c
+  pub choice_held : (s c : ℕ) → c < T.choices s → HoldsChoice T s c (row_at s c) branches
+  choice_held s c h = (p.at s (state_of s c h)).held.at c h
+
+  reward_same : (s c : ℕ) → (choice_at states choices branches s c).reward ≡ T.reward s c
   reward_same s c =
       ⊎_elim
-      (λ (h : c < T.choices s). (choice_held s c h).reward)
+      (λ (h : c < T.choices s). ap (λ (r : ChoiceRow). r.reward) (choice_is s c h) ∙ (choice_held s c h).reward)
       (λ (h : T.choices s ≤ c). ap (λ (r : ChoiceRow). r.reward) (choice_out s c h) ∙ sym (out.reward s c h))
       (cases_lt c (T.choices s))
 
-  branches_same : (s c : ℕ) → (choice_in choices (row s) c).count ≡ T.branches s c
+  branches_same : (s c : ℕ) → branch_count states choices branches s c ≡ T.branches s c
   branches_same s c =
       ⊎_elim
-      (λ (h : c < T.choices s). (choice_held s c h).count)
-      (λ (h : T.choices s ≤ c). ap (λ (r : ChoiceRow). r.count) (choice_out s c h) ∙ sym (out.branches s c h))
+      (λ (h : c < T.choices s).
+      let w = choice_held s c h in
+      let l = w.within in
+      let q = w.count in
+      ap (λ (x : ChoiceRow). run x.first x.count (length branches)) (choice_is s c h)
+      ∙ run_in (row_at s c).first (row_at s c).count (length branches) (omega arith) ∙ q)
+      (λ (h : T.choices s ≤ c).
+      ap (λ (x : ChoiceRow). run x.first x.count (length branches)) (choice_out s c h)
+      ∙ run_in 0 0 (length branches) (omega arith) ∙ sym (out.branches s c h))
       (cases_lt c (T.choices s))
 
   -- a choice with a branch is a choice of the table
@@ -191,26 +236,30 @@ module _ (T : Table) (out : ZeroOutside T) (states : List StateRow) (choices : L
   choice_of s c b h =
       ⊎_elim (λ (l : c < T.choices s). l) (λ (l : T.choices s ≤ c). let e = out.branches s c l in absurd (omega arith)) (cases_lt c (T.choices s))
 
-  branch_same : (s c b : ℕ) → branch_in branches (choice_in choices (row s) c) b ≡ T.branch s c b
+  branch_same : (s c b : ℕ) → branch_at states choices branches s c b ≡ T.branch s c b
   branch_same s c b =
-      let r = choice_in choices (row s) c in
-      let q = branches_same s c in
+      let n = branch_count states choices branches s c in
+      let x = get_or branches ((choice_at states choices branches s c).first + b) (0, 0) in
       ⊎_elim
       (λ (h : b < T.branches s c).
-      let l : b < r.count = omega arith in
-      run_at branches (0, 0) r.first r.count b l ∙ (choice_held s c (choice_of s c b h)).at b h)
+      let l : b < n = subst (λ (m : ℕ). b < m) (sym (branches_same s c)) h in
+      cond-true (ltb b n) x (0, 0) (lt-ltb b n l)
+      ∙ ap (λ (r : ChoiceRow). get_or branches (r.first + b) (0, 0)) (choice_is s c (choice_of s c b h))
+      ∙ (choice_held s c (choice_of s c b h)).at b h)
       (λ (h : T.branches s c ≤ b).
-      let l : r.count ≤ b = omega arith in
-      run_past branches (0, 0) r.first r.count b l ∙ sym (out.branch s c b h))
+      let l : n ≤ b = subst (λ (m : ℕ). m ≤ b) (sym (branches_same s c)) h in
+      cond-false (ltb b n) x (0, 0) (le-ltb b n l) ∙ sym (out.branch s c b h))
       (cases_lt b (T.branches s c))
 
-  pub copied_table : flat_table T.denominator states choices branches ≡ T
-  unfolding row
+  copied_table : list_table T.denominator states choices branches ≡ T
   copied_table = λ i. record {
-    states = p.size i;
+    states = states_same i;
     denominator = T.denominator;
-    choices = λ s. count_same s i;
+    choices = λ s. choices_same s i;
     reward = λ s c. reward_same s c i;
     branches = λ s c. branches_same s c i;
     branch = λ s c b. branch_same s c b i;
   }
+
+  pub copied_rows : (W : ℕ) → W ≡ T.denominator → list_table W states choices branches ≡ T
+  copied_rows W e = ap (λ (w : ℕ). list_table w states choices branches) e ∙ copied_table

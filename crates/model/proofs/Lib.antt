@@ -1,4 +1,4 @@
-pub mod Flats
+pub mod Unbroken
 pub mod Copies
 pub mod Extremes
 pub mod Loading

@@ -1,12 +1,12 @@
 -- What a copy of a part of a table holds.
-use Rattle.std.specs.Prelude.{◌≡◌, ℕ, ◌+◌, ◌*◌, ◌<◌, ◌≤◌, List, ◌++◌, map, length, Result, MatchResult, slice_index_or}
-use Rattle.std.specs.List.{range_with_len}
+use Rattle.std.specs.Prelude.{◌≡◌, ℕ, ◌+◌, ◌*◌, ◌<◌, ◌≤◌, List, ◌++◌, map, length, ℤ, Result, MatchResult, slice_index_or}
+use Rattle.std.specs.List.{range_with_len, All}
 use Rattle.table.specs.Table.{Table, ZeroOutside}
-use Rattle.model.specs.Flat.{no_state, no_choice}
+use Rattle.sources.specs.Rows.{no_state, no_choice}
+use Rattle.sources.specs.declared.list.StateRow.{StateRow}
+use Rattle.sources.specs.declared.list.ChoiceRow.{ChoiceRow}
 use Rattle.model.specs.declared.fault.LoadFault.{LoadFault}
 use Rattle.model.specs.declared.fault.LoadFault.TheVariants.{Memory}
-use Rattle.model.specs.declared.rows.StateRow.{StateRow}
-use Rattle.model.specs.declared.rows.ChoiceRow.{ChoiceRow}
 
 -- new is old with more at its end
 pub record Extends {X : Type 0} (old new : List X) : Type 0 where
@@ -42,12 +42,17 @@ pub record HoldsState (T : Table) (s : ℕ) (row : StateRow) (choices : List Cho
   pub count : row.count ≡ T.choices s
   pub held : HoldsChoices T s (T.choices s) row.first choices branches
 
--- the lists hold the first k states
+-- a choice of one of the first k states earns r
+abbrev pub Earned : Table → ℕ → ℤ → Type 0
+Earned T k r = (s : ℕ) × (c : ℕ) × (s < k) × (c < T.choices s) × (T.reward s c ≡ r)
+
+-- the lists hold the first k states, and no row of a choice more
 pub record StatesCopied (T : Table) (k : ℕ) (states : List StateRow) (choices : List ChoiceRow) (branches : List (ℕ × ℕ)) : Type 0 where
   pub size : length states ≡ k
   pub few_choices : length choices ≤ 16 * k
   pub few_branches : length branches ≤ 128 * k
   pub at : (s : ℕ) → s < k → HoldsState T s (slice_index_or states s no_state) choices branches
+  pub earned : All (λ (row : ChoiceRow). Earned T k row.reward) choices
 
 -- the lists hold all states of a table that is 0 outside
 pub record TableCopied (T : Table) (states : List StateRow) (choices : List ChoiceRow) (branches : List (ℕ × ℕ)) : Type 0 where

@@ -1,4 +1,5 @@
-pub mod Flat
+pub mod Unbroken
+pub mod Rewards
 pub mod Held
 pub mod Copy
 pub mod Loads

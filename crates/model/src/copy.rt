@@ -1,9 +1,9 @@
-ghost use Rattle.std.specs.Prelude.{◌*◌, ◌<◌, ◌≤◌, length};
+ghost use Rattle.std.specs.Prelude.{◌≡◌, ◌*◌, ◌<◌, ◌≤◌, length};
 ghost use Rattle.table.specs.Limits.{Lawful};
 ghost use Rattle.model.specs.Copy.{BranchesCopied, ChoicesCopied, TableCopied, Copies};
 
 use crate::fault::LoadFault;
-use crate::rows::{ChoiceRow, Rows, StateRow};
+use sources::{ChoiceRow, OwnedList, StateRow};
 use std::alloc::Global;
 use table::Source;
 
@@ -16,9 +16,8 @@ fn copy_branches<S: Source>(
 ) -> Result<(), LoadFault>
     ensures { Copies result (λ _. BranchesCopied (S.table source.now) state choice branches.old.items branches.new.items) }
 {
-    for branch in 0..source.branches(state, choice) {
-        branches.push(source.branch(state, choice, branch))?;
-    }
+    let count = source.branches(state, choice);
+    branches.extend((0..count).map(|branch| source.branch(state, choice, branch)))?;
     Ok(())
 }
 
@@ -48,10 +47,10 @@ fn copy_choices<S: Source>(
     Ok(())
 }
 
-// The rows of all states, choices and branches.
-pub(crate) fn copy_states<S: Source>(heap: Global, source: &S) -> Result<Rows, LoadFault>
+// The denominator, and the rows of all states, choices and branches.
+pub(crate) fn copy_states<S: Source>(heap: Global, source: &S) -> Result<OwnedList, LoadFault>
     requires { Lawful (S.table source.now) }
-    ensures { Copies result (λ t. TableCopied (S.table source.now) t.states.items t.choices.items t.branches.items) }
+    ensures { Copies result (λ o. (o.denominator ≡ (S.table source.now).denominator) × TableCopied (S.table source.now) o.states.items o.choices.items o.branches.items) }
 {
     let mut states = Vec::new(heap);
     let mut choices = Vec::new(heap);
@@ -62,7 +61,8 @@ pub(crate) fn copy_states<S: Source>(heap: Global, source: &S) -> Result<Rows, L
         copy_choices(source, state, &mut choices, &mut branches)?;
         states.push(StateRow { first, count })?;
     }
-    Ok(Rows {
+    Ok(OwnedList {
+        denominator: source.denominator(),
         states,
         choices,
         branches,

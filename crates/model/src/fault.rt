@@ -5,7 +5,7 @@ use std::alloc::{AllocError, AllocFailed};
 use table::Fault;
 
 // Why a table is not loaded: a broken limit, or want of memory.
-#[derive(Clone, Copy)]
+#[derive(Clone, Copy, PartialEq, Eq, Debug)]
 pub enum LoadFault {
     Limit(Fault),
     Memory,

@@ -3,13 +3,11 @@
 
 mod copy;
 mod fault;
+mod lend;
 mod load;
 mod model;
 mod notice;
-mod read;
 mod rewards;
-mod rows;
 
 pub use fault::LoadFault;
 pub use model::Model;
-pub use rows::{ChoiceRow, StateRow};

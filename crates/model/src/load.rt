@@ -4,8 +4,7 @@ ghost use Rattle.model.specs.Loads.{Loaded, RefusedLoad};
 use crate::copy::copy_states;
 use crate::fault::LoadFault;
 use crate::model::Model;
-use crate::rewards::extremes;
-use crate::rows::Rows;
+use crate::rewards::{largest_reward, least_reward};
 use std::alloc::Global;
 use table::{Source, check};
 
@@ -15,19 +14,13 @@ impl Model {
         ensures { MatchResult result (Loaded (S.table source.now)) (RefusedLoad (S.table source.now)) }
     {
         check(source)?;
-        let Rows {
-            states,
-            choices,
-            branches,
-        } = copy_states(heap, source)?;
-        let (least, largest) = extremes(source);
+        let rows = copy_states(heap, source)?;
+        let least = least_reward(&rows.choices).unwrap_or(0);
+        let largest = largest_reward(&rows.choices).unwrap_or(0);
         Ok(Model {
-            denominator: source.denominator(),
+            rows,
             least,
             largest,
-            states,
-            choices,
-            branches,
         })
     }
 

@@ -1,15 +1,21 @@
-ghost use Rattle.std.specs.Prelude.{◌≤◌, vec_len};
+ghost use Rattle.std.specs.Prelude.{◌≡◌, ◌≤◌, Some, vec_len};
+ghost use Rattle.std.specs.Int.{int_min, int_max};
+ghost use Rattle.std.specs.List.{reduce};
+ghost use Rattle.sources.specs.Rows.{list_table};
+ghost use Rattle.model.specs.Rewards.{rewards};
+ghost use Rattle.model.specs.Unbroken.{Unbroken};
 
-use crate::rows::{ChoiceRow, StateRow};
+use sources::OwnedList;
 
-// The engine's own copy of a table, with its least and largest reward. A branch is its successor and its weight.
+// The engine's own copy of a lawful table, with the least and the largest reward of its rows.
+// The fields are public since the inner loops of crate book read the rows themselves; whoever makes a model must prove its facts.
 #[derive(Drop)]
 pub struct Model {
-    pub(crate) denominator: u32,
-    pub(crate) least: i32,
-    pub(crate) largest: i32,
-    pub(crate) states: Vec<StateRow>,
-    pub(crate) choices: Vec<ChoiceRow>,
-    pub(crate) branches: Vec<(u32, u32)>,
-    ghost few: { vec_len states ≤ 256 },
+    pub rows: OwnedList,
+    pub least: i32,
+    pub largest: i32,
+    ghost few: { vec_len rows.states ≤ 256 },
+    ghost lawful: { Unbroken (list_table rows.denominator rows.states.items rows.choices.items rows.branches.items) },
+    ghost least_is: { reduce int_min (rewards rows.choices.items) ≡ Some least },
+    ghost largest_is: { reduce int_max (rewards rows.choices.items) ≡ Some largest },
 }

@@ -7,17 +7,13 @@ use table::Notice;
 const WANT_OF_MEMORY: u32 = 20;
 
 impl LoadFault {
+    // The number that a caller is told, with the state, choice and branch of a broken limit.
     pub fn notice(&self) -> Notice
         ensures { result ≡ load_notice_of self.now }
     {
         match *self {
             LoadFault::Limit(fault) => fault.notice(),
-            LoadFault::Memory => Notice {
-                number: WANT_OF_MEMORY,
-                state: 0,
-                choice: 0,
-                branch: 0,
-            },
+            LoadFault::Memory => Notice::of_number(WANT_OF_MEMORY),
         }
     }
 }

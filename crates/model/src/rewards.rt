@@ -1,22 +1,20 @@
-ghost use Rattle.table.specs.Limits.{Lawful};
-ghost use Rattle.model.specs.Loads.{LeastReward, LargestReward};
+ghost use Rattle.std.specs.Prelude.{◌≡◌};
+ghost use Rattle.std.specs.Int.{int_min, int_max};
+ghost use Rattle.std.specs.List.{reduce};
+ghost use Rattle.model.specs.Rewards.{rewards};
 
-use table::Source;
+use sources::ChoiceRow;
 
-// The least and the largest reward of a table.
-pub(crate) fn extremes<S: Source>(source: &S) -> (i32, i32)
-    requires { Lawful (S.table source.now) }
-    ensures least { LeastReward (S.table source.now) result.0 }
-    ensures largest { LargestReward (S.table source.now) result.1 }
+// The least reward of a list of choices; none of an empty one.
+pub(crate) fn least_reward(choices: &[ChoiceRow]) -> Option<i32>
+    ensures { result ≡ reduce int_min (rewards choices.now) }
 {
-    let mut least = source.reward(0, 0);
-    let mut largest = least;
-    for state in 0..source.states() {
-        for choice in 0..source.choices(state) {
-            let reward = source.reward(state, choice);
-            least = least.min(reward);
-            largest = largest.max(reward);
-        }
-    }
-    (least, largest)
+    choices.iter().map(|row| row.reward).min()
+}
+
+// The largest reward of a list of choices; none of an empty one.
+pub(crate) fn largest_reward(choices: &[ChoiceRow]) -> Option<i32>
+    ensures { result ≡ reduce int_max (rewards choices.now) }
+{
+    choices.iter().map(|row| row.reward).max()
 }

@@ -1,30 +1,26 @@
--- Filling a list: one row more, and rows in two parts.
-use Rattle.std.proofs.Common.{◌≡◌, ℕ, zero, suc, ◌+◌, ◌-◌, ◌*◌, ◌<◌, ◌≤◌, List, length, take, drop, set, Ok, sym, refl, ap, ◌∙◌, ap₂, arith}
-use Rattle.std.proofs.lemmas.List.{drop-drop}
-use Rattle.modelfile.specs.Bytes.{little_endian, branch, branch_list}
+-- Filling a list: one row more, and the branches of a run of bytes.
+use Rattle.std.proofs.Common.{◌≡◌, ℕ, zero, suc, ◌+◌, ◌<◌, List, length, map, take, drop, get_or, set, sym, refl, ap, ◌∙◌, arith}
+use Rattle.std.proofs.lemmas.List.{take-take, drop-take, drop_more}
+use Rattle.std.specs.Simd.{first_chunks}
+use Rattle.modelfile.specs.Bytes.{branch_of, branch_list}
 use Rattle.modelfile.specs.Filling.{fill}
-use Rattle.modelfile.proofs.Fields.{ok_same, branch_ok}
+
+pub fill_more : {X Y : Type 0} (f : X → Y) (xs : List X) (d : X) (i first : ℕ) (list : List Y) → i < length xs
+    → fill (map f (drop (i + 1) xs)) (first + (i + 1)) (set list (first + i) (f (get_or xs i d))) ≡ fill (map f (drop i xs)) (first + i) list
+fill_more f xs d i first list h =
+    let s : first + (i + 1) ≡ suc (first + i) = omega arith in
+    ap (λ (at : ℕ). fill (map f (drop (i + 1) xs)) at (set list (first + i) (f (get_or xs i d)))) s
+    ∙ sym (ap (λ (l : List _). fill (map f l) (first + i) list) (drop_more xs i d h))
+
+-- the branches that bytes hold, from their parts of 6 bytes
+pub chunk_branches : (k : ℕ) (bytes : List ℕ) → map branch_of (first_chunks 6 k bytes) ≡ branch_list k bytes
+chunk_branches zero bytes = refl
+chunk_branches (suc k) bytes =
+    let a : take 2 (take 6 bytes) ≡ take 2 bytes = take-take 2 6 bytes (omega arith) in
+    let b : drop 2 (take 6 bytes) ≡ take 4 (drop 2 bytes) = drop-take 2 4 bytes in
+    let r = chunk_branches k (drop 6 bytes) in
+    rw (a, b, r)
 
 pub list_long : (k : ℕ) (bytes : List ℕ) → length (branch_list k bytes) ≡ k
 list_long zero bytes = refl
 list_long (suc k) bytes = ap suc (list_long k (drop 6 bytes))
-
--- one branch of a run more
-pub fill_branch : (bytes : List ℕ) (k i first : ℕ) (list : List (ℕ × ℕ)) (row : ℕ × ℕ) (q : ℕ) → i < k → 6 * k ≤ length bytes
-    → branch bytes (6 * i) ≡ Ok (row, q)
-    → fill (branch_list (k - (i + 1)) (drop (6 * (i + 1)) bytes)) (first + (i + 1)) (set list (first + i) row)
-    ≡ fill (branch_list (k - i) (drop (6 * i) bytes)) (first + i) list
-fill_branch bytes k i first list row q l h f =
-    let b = branch_ok bytes (6 * i) (omega arith) in
-    let r : row ≡ (little_endian (take 2 (drop (6 * i) bytes)), little_endian (take 4 (drop 2 (drop (6 * i) bytes)))) =
-    ap (λ (v : (ℕ × ℕ) × ℕ). v.0) (ok_same (sym f ∙ b)) in
-    let n : k - i ≡ suc (k - (i + 1)) = omega arith in
-    let d : drop 6 (drop (6 * i) bytes) ≡ drop (6 * i + 6) bytes = drop-drop 6 (6 * i) bytes in
-    let e : 6 * i + 6 ≡ 6 * (i + 1) = omega arith in
-    let s : first + (i + 1) ≡ suc (first + i) = omega arith in
-    ap₂ (λ (at : ℕ) (x : ℕ × ℕ). fill (branch_list (k - (i + 1)) (drop (6 * (i + 1)) bytes)) at (set list (first + i) x)) s r
-    ∙ ap (λ (rest : List ℕ).
-    fill (branch_list (k - (i + 1)) rest) (suc (first + i))
-    (set list (first + i) (little_endian (take 2 (drop (6 * i) bytes)), little_endian (take 4 (drop 2 (drop (6 * i) bytes))))))
-    (sym (d ∙ ap (λ (x : ℕ). drop x bytes) e))
-    ∙ ap (λ (x : ℕ). fill (branch_list x (drop (6 * i) bytes)) (first + i) list) (sym n)

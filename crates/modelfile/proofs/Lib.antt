@@ -1,4 +1,5 @@
 pub mod Fields
+pub mod Maps
 pub mod Fills
 pub mod Inverse
 pub mod Walk

@@ -4,12 +4,12 @@ use Rattle.std.proofs.lemmas.Bool.{and_parts, cond-true, cond-false, leb-true}
 use Rattle.sources.specs.declared.list.StateRow.{StateRow}
 use Rattle.sources.specs.declared.list.ChoiceRow.{ChoiceRow}
 use Rattle.modelfile.specs.File.{Model, read_file}
-use Rattle.modelfile.specs.Lists.{loaded_of, outcome}
+use Rattle.modelfile.specs.Lists.{loaded_of, outcome, after_call}
 use Rattle.modelfile.specs.Filling.{fill, Tally, filled, tallied}
 use Rattle.modelfile.specs.declared.fault.FileFault.{FileFault}
 use Rattle.modelfile.specs.declared.fault.FileFault.TheVariants.{ShortList}
 use Rattle.modelfile.specs.declared.loaded.Loaded.{Loaded}
-use Rattle.modelfile.proofs.Fields.{ok_same, then_ok, then_err}
+use Rattle.modelfile.proofs.Fields.{ok_same, then_ok}
 use Rattle.modelfile.proofs.Inverse.{err_ok}
 
 fill_behind : {X : Type 0} (xs : List X) (at : ℕ) (y : X) (list : List X) → fill xs (suc at) (y ∷ list) ≡ y ∷ fill xs at list
@@ -17,16 +17,12 @@ fill_behind [] at y list = refl
 fill_behind (x ∷ xs) at y list = fill_behind xs (suc at) y (set list at x)
 
 -- rows for which a list has a place stand at its front
-pub fill_front : {X : Type 0} (xs list : List X) → length xs ≤ length list → fill xs 0 list ≡ xs ++ drop (length xs) list
+fill_front : {X : Type 0} (xs list : List X) → length xs ≤ length list → fill xs 0 list ≡ xs ++ drop (length xs) list
 fill_front [] list h = refl
 fill_front (x ∷ xs) [] h = absurd (omega arith)
 fill_front (x ∷ xs) (y ∷ list) h = fill_behind xs 0 x list ∙ ap (λ (l : List _). x ∷ l) (fill_front xs list (omega arith))
 
 module _ (S : List StateRow) (C : List ChoiceRow) (B : List (ℕ × ℕ)) where
-  pub filled_err : (m : Result Model FileFault) (e : FileFault) → ◌≡◌ {A = Result Tally FileFault} (Err e) (filled m S C B) → m ≡ Err e
-  filled_err (Ok m) e h = absurd (err_ok h)
-  filled_err (Err x) e h = cc
-
   pub filled_ok : (m : Result Model FileFault) (t : Tally) → ◌≡◌ {A = Result Tally FileFault} (Ok t) (filled m S C B)
       → (v : Model) × (m ≡ Ok v) × (t.counts ≡ loaded_of v)
   filled_ok (Ok m) t h = (m, refl, ap (λ (t : Tally). t.counts) (ok_same h))
@@ -40,9 +36,6 @@ tallied_ok (Ok c) S C B t h =
 tallied_ok (Err x) S C B t h = absurd (err_ok h)
 
 module _ (file : List ℕ) (s c b : ℕ) where
-  pub outcome_err : (e : FileFault) → read_file file ≡ Err e → outcome file s c b ≡ Err e
-  outcome_err e h = then_err _ h
-
   abbrev pub roomy : Loaded → Bool
   roomy t = leb t.states s && leb t.choices c && leb t.branches b
 
@@ -54,6 +47,13 @@ module _ (file : List ℕ) (s c b : ℕ) where
 
   pub outcome_ok : (m : Model) → read_file file ≡ Ok m → roomy (loaded_of m) ≡ true → outcome file s c b ≡ Ok m
   outcome_ok m h q = outcome_is m h ∙ cond-true (roomy (loaded_of m)) (Ok m) (Err ShortList) q
+
+-- a list that is filled with the rows of an accepted file
+pub after_front : {X : Type 0} (rows : Model → List X) {o : Result Model FileFault} {m : Model} {list was new : List X}
+    → o ≡ Ok m → list ≡ was → length (rows m) ≤ length list → new ≡ fill (rows m) 0 list → new ≡ after_call o rows was
+after_front rows {o} {m} {list} {was} out same room filled =
+    filled ∙ fill_front (rows m) list room ∙ ap (λ (l : List _). rows m ++ drop (length (rows m)) l) same
+    ∙ sym (ap (λ (o : Result Model FileFault). after_call o rows was) out)
 
 -- each list has a place for each of its rows
 pub room : (a b d s c e : ℕ) → (leb a s && leb b c && leb d e) ≡ true → (a ≤ s) × (b ≤ c) × (d ≤ e)

@@ -2,18 +2,15 @@
 use Rattle.std.proofs.Common.{◌≡◌, ℕ, zero, suc, ◌+◌, ◌-◌, Bool, true, false, cond, ltb, List, [], ◌∷◌, ◌++◌, length, set, Some, None, Ok, Err, Option, Result, sym, refl, ap, ◌∙◌, ap₂, arith}
 use Rattle.std.proofs.lemmas.List.{length-append}
 use Rattle.std.proofs.lemmas.Bool.{lt-ltb}
-use Rattle.sources.specs.declared.list.StateRow.{StateRow}
-use Rattle.sources.specs.declared.list.ChoiceRow.{ChoiceRow}
 use Rattle.modelfile.specs.Results.{Read, and_then, of_file}
 use Rattle.modelfile.specs.Records.{HeaderFields, ChoiceFields, Fields, of_header, of_state, of_choice, header, state, choice}
 use Rattle.modelfile.specs.File.{choice_run, state_run, at_end}
 use Rattle.modelfile.specs.Steps.{Cursor, standing, step}
 use Rattle.modelfile.specs.Lists.{branches_of, choices_of, all_choices, state_rows, choice_rows, branch_rows}
-use Rattle.modelfile.specs.Filling.{fill, counts, counted, with_state, with_choice, with_branches, Tally, tally}
+use Rattle.modelfile.specs.Filling.{fill, counts, Tally, tally, placed}
 use Rattle.modelfile.specs.declared.fault.RecordFault.{RecordFault}
 use Rattle.modelfile.specs.declared.fault.FileFault.{FileFault}
 use Rattle.modelfile.specs.declared.fault.FileFault.TheVariants.{Trailing}
-use Rattle.modelfile.specs.declared.loaded.Loaded.{Loaded}
 use Rattle.modelfile.proofs.Fields.{ok_same, then_ok}
 use Rattle.modelfile.proofs.Inverse.{err_ok, then_inv}
 
@@ -23,11 +20,6 @@ fill_append [] ys at list = let e : at ≡ at + 0 = omega arith in ap (λ (n : �
 fill_append (x ∷ xs) ys at list =
     let e : suc at + length xs ≡ at + suc (length xs) = omega arith in
     fill_append xs ys (suc at) (set list at x) ∙ ap (λ (n : ℕ). fill ys n (fill xs (suc at) (set list at x))) e
-
--- a record put into the counts and the lists
-abbrev pub placed : Tally → Fields → Tally
-placed t f =
-    tally (counted t.counts f) (with_state t.counts f t.states) (with_choice t.counts f t.choices) (with_branches t.counts f t.branches)
 
 -- the choices of the present state and the states that are left
 abbrev pub Left : Type 0
@@ -293,6 +285,3 @@ module _ (file : List ℕ) where
   -- at the end of the file the lists are full
   pub finish_none : (t : Tally) (c d : Cursor) → step file c ≡ Ok (None, d) → finish c t ≡ Ok t
   finish_none t c d h = none_on t c.begun c.at c.states c.choices d h
-
-pub same_tally : {t u : Loaded} {s v : List StateRow} {c w : List ChoiceRow} {b x : List (ℕ × ℕ)} → t ≡ u → s ≡ v → c ≡ w → b ≡ x → tally t s c b ≡ tally u v w x
-same_tally h i j k = cc

@@ -13,7 +13,7 @@ use Rattle.modelfile.specs.File.{Model, choice_run, state_run, at_end, body, rea
 use Rattle.modelfile.specs.Steps.{Cursor, standing, step}
 use Rattle.modelfile.specs.Written.{written_signed, written_text, written_branch, written_branches, if_there, written_choice}
 use Rattle.modelfile.specs.Lists.{branches_of, all_choices, state_rows, choice_rows, branch_rows}
-use Rattle.modelfile.specs.Filling.{fill, size, counts, counted, Tally, tally, filled}
+use Rattle.modelfile.specs.Filling.{fill, size, counts, counted, Tally, tally, placed, filled}
 use Rattle.modelfile.specs.declared.fault.RecordFault.{RecordFault}
 use Rattle.modelfile.specs.declared.fault.FileFault.{FileFault}
 use Rattle.modelfile.specs.declared.fault.FileFault.TheVariants.{Trailing, TooLong, Unread}
@@ -23,7 +23,7 @@ use Rattle.modelfile.proofs.Fields.{ok_same, then_err}
 use Rattle.modelfile.proofs.Inverse.{err_ok, record_inv}
 use Rattle.modelfile.proofs.Accepted.{Small, number_reads}
 use Rattle.modelfile.proofs.AcceptedFile.{header_reads, choice_reads}
-use Rattle.modelfile.proofs.Walk.{placed, Left, after, left_run, ended, finish, Stepped, after_header, after_choice, after_state, step_choice, step_state, none_some}
+use Rattle.modelfile.proofs.Walk.{Left, after, left_run, ended, finish, Stepped, after_header, after_choice, after_state, step_choice, step_state, none_some}
 
 module _ (file : List ℕ) where
   header_err : (t : Tally) (r : Read HeaderFields RecordFault) (e : FileFault) → and_then (of_file r) (after_header file) ≡ Err e

@@ -1,9 +1,8 @@
 -- Fields of a file: numbers, little endian, and runs of text.
-use Rattle.std.specs.Prelude.{ℕ, zero, suc, ◌+◌, ◌*◌, ◌/◌, cond, List, [], ◌∷◌, length, take, drop, ℤ, Ok, Err, Option, nat_le}
+use Rattle.std.specs.Prelude.{ℕ, zero, suc, ◌+◌, ◌*◌, ◌/◌, cond, List, [], ◌∷◌, length, take, drop, ℤ, Ok, Err, nat_le}
 use Rattle.std.specs.Int.{w32}
 use Rattle.std.proofs.Common.{to_z}
 use Rattle.std.specs.Borrow.{Bor}
-use Rattle.std.specs.Option.{option_map}
 use Rattle.modelfile.specs.Results.{Read, and_then}
 use Rattle.modelfile.specs.declared.fault.ByteFault.{ByteFault}
 use Rattle.modelfile.specs.declared.fault.ByteFault.TheVariants.{Lacking}
@@ -43,6 +42,10 @@ branch_run (suc k) file p =
 abbrev pub branches : List ℕ → ℕ → Read (List (ℕ × ℕ)) ByteFault
 branches file p = and_then (number 1 file p) (λ n. branch_run n.0 file n.1)
 
+-- the branch that 6 bytes hold
+abbrev pub branch_of : List ℕ → ℕ × ℕ
+branch_of bytes = (little_endian (take 2 bytes), little_endian (drop 2 bytes))
+
 -- the first k branches that bytes hold, 6 bytes each
 abbrev pub branch_list : ℕ → List ℕ → List (ℕ × ℕ)
 branch_list zero bytes = []
@@ -51,11 +54,3 @@ branch_list (suc k) bytes = (little_endian (take 2 bytes), little_endian (take 4
 -- the branches that a borrowed run of bytes holds
 abbrev pub branches_in : Bor (List ℕ) → List (ℕ × ℕ)
 branches_in run = branch_list (length run.now / 6) run.now
-
-abbrev pub held_branches : {E : Type 0} → Read (Bor (List ℕ)) E → Read (List (ℕ × ℕ)) E
-held_branches (Ok v) = Ok (branches_in v.0, v.1)
-held_branches (Err e) = Err e
-
-abbrev pub held_optional_branches : {E : Type 0} → Read (Option (Bor (List ℕ))) E → Read (Option (List (ℕ × ℕ))) E
-held_optional_branches (Ok v) = Ok (option_map branches_in v.0, v.1)
-held_optional_branches (Err e) = Err e

@@ -1,5 +1,5 @@
 -- How lists are filled, record by record.
-use Rattle.std.specs.Prelude.{ℕ, suc, ◌+◌, ◌-◌, List, [], ◌∷◌, length, Ok, Err, Result, slice_set}
+use Rattle.std.specs.Prelude.{◌≡◌, ◌≤◌, ℕ, suc, ◌+◌, ◌-◌, List, [], ◌∷◌, length, Ok, Err, Result, slice_set}
 use Rattle.std.specs.Option.{unwrap_or}
 use Rattle.sources.specs.declared.list.StateRow.{StateRow}
 use Rattle.sources.specs.declared.list.ChoiceRow.{ChoiceRow}
@@ -7,6 +7,7 @@ use Rattle.modelfile.specs.Records.{Fields, of_header, of_state, of_choice}
 use Rattle.modelfile.specs.File.{Model}
 use Rattle.modelfile.specs.Lists.{reward_of, branches_of, state_row, choice_row, loaded_of, model_states, model_choices, model_branches}
 use Rattle.modelfile.specs.declared.fault.FileFault.{FileFault}
+use Rattle.modelfile.specs.declared.fill.Lists.{Lists}
 use Rattle.modelfile.specs.declared.loaded.Loaded.{Loaded}
 
 -- rows put into a list from a place on, as far as the list reaches
@@ -58,6 +59,24 @@ pub record Tally : Type 0 where
 
 abbrev pub tally : Loaded → List StateRow → List ChoiceRow → List (ℕ × ℕ) → Tally
 tally counts states choices branches = record { counts = counts; states = states; choices = choices; branches = branches }
+
+-- a record put into the counts and the lists
+abbrev pub placed : Tally → Fields → Tally
+placed t f =
+    tally (counted t.counts f) (with_state t.counts f t.states) (with_choice t.counts f t.choices) (with_branches t.counts f t.branches)
+
+abbrev pub tally_of : Lists → Tally
+tally_of l = tally l.used l.states.now l.choices.now l.branches.now
+
+-- the same lists of the caller
+abbrev pub SameLists : Lists → Lists → Type 0
+SameLists k l =
+    (l.states.ghost_name ≡ k.states.ghost_name) × (l.choices.ghost_name ≡ k.choices.ghost_name) × (l.branches.ghost_name ≡ k.branches.ghost_name)
+
+-- no count is above a bound, and a record adds no more rows than that
+abbrev pub AtMost : ℕ → Lists → Fields → Type 0
+AtMost most l f =
+    (l.used.states ≤ most) × (l.used.choices ≤ most) × (l.used.branches ≤ most) × (size 0 0 f ≤ most)
 
 -- lists filled with what a file says, as far as they reach
 abbrev pub filled : Result Model FileFault → List StateRow → List ChoiceRow → List (ℕ × ℕ) → Result Tally FileFault

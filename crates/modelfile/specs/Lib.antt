@@ -1,6 +1,7 @@
 pub mod Faults
 pub mod Results
 pub mod Bytes
+pub mod Reading
 pub mod Records
 pub mod File
 pub mod Steps

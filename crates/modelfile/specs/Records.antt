@@ -1,12 +1,11 @@
 -- The records of a file: its header, a state, a choice. What is missing is None.
-use Rattle.std.specs.Prelude.{ℕ, Bool, cond, not, List, ℤ, Ok, Err, Option, ◌==◌, bit_and, nat_lt}
+use Rattle.std.specs.Prelude.{◌≡◌, ℕ, ◌-◌, ◌^◌, ◌≤◌, Bool, cond, not, List, ℤ, Ok, Err, Option, ◌==◌, bit_and, nat_lt, nat_le}
 use Rattle.std.specs.Option.{option_map}
 use Rattle.modelfile.specs.Results.{Read, and_then, of_record, when_set, text_of}
 use Rattle.modelfile.specs.Bytes.{number, signed, text, branches, branches_in}
 use Rattle.modelfile.specs.declared.fault.RecordFault.{RecordFault}
 use Rattle.modelfile.specs.declared.fault.RecordFault.TheVariants.{UnknownBit}
 use Rattle.modelfile.specs.declared.record.Header.{Header}
-use Rattle.modelfile.specs.declared.record.State.{State}
 use Rattle.modelfile.specs.declared.record.Choice.{Choice}
 use Rattle.modelfile.specs.declared.record.Record.{Record}
 use Rattle.modelfile.specs.declared.record.Record.TheVariants.{Header as AHeader, State as AState, Choice as AChoice}
@@ -32,6 +31,15 @@ pub data Fields : Type 0 where
 -- whether a bit map has a bit, 1 for bit 0, 2 for bit 1, 4 for bit 2
 abbrev pub has_bit : ℕ → ℕ → Bool
 has_bit bit map = not (bit_and map bit == 0)
+
+-- a number whose bits are the lowest ones
+abbrev pub LowestBits : ℕ → Type 0
+LowestBits every = (k : ℕ) × (k ≤ 32) × (every ≡ 2 ^ k - 1)
+
+-- a bit map of which only the bits of `every` may be set, which are the lowest
+abbrev pub bit_map : ℕ → List ℕ → ℕ → Read ℕ RecordFault
+bit_map every file p =
+    and_then (of_record (number 1 file p)) (λ m. cond (nat_le m.0 every) (Ok m) (Err (UnknownBit p)))
 
 -- a bit map of two bits, the fields that it names, and the number of states
 abbrev pub header : List ℕ → ℕ → Read HeaderFields RecordFault
@@ -70,15 +78,3 @@ abbrev pub fields_of : Record → Fields
 fields_of (AHeader h) = of_header (header_of h)
 fields_of (AState s) = of_state s.choices
 fields_of (AChoice c) = of_choice (choice_of c)
-
-abbrev pub header_read : {E : Type 0} → Read Header E → Read HeaderFields E
-header_read (Ok v) = Ok (header_of v.0, v.1)
-header_read (Err e) = Err e
-
-abbrev pub state_read : {E : Type 0} → Read State E → Read ℕ E
-state_read (Ok v) = Ok (v.0.choices, v.1)
-state_read (Err e) = Err e
-
-abbrev pub choice_read : {E : Type 0} → Read Choice E → Read ChoiceFields E
-choice_read (Ok v) = Ok (choice_of v.0, v.1)
-choice_read (Err e) = Err e

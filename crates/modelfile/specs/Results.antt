@@ -31,15 +31,7 @@ abbrev pub when_set : {A E : Type 0} → Bool → ℕ → Read A E → Read (Opt
 when_set false p part = Ok (None, p)
 when_set true p part = and_then part (λ v. Ok (Some v.0, v.1))
 
--- what a borrowed run of bytes holds
-abbrev pub held : {E : Type 0} → Read (Bor (List ℕ)) E → Read (List ℕ) E
-held (Ok v) = Ok (v.0.now, v.1)
-held (Err e) = Err e
-
+-- what a borrowed text holds
 abbrev pub text_of : Option (Bor (List ℕ)) → Option (List ℕ)
 text_of None = None
 text_of (Some t) = Some t.now
-
-abbrev pub held_text : {E : Type 0} → Read (Option (Bor (List ℕ))) E → Read (Option (List ℕ)) E
-held_text (Ok v) = Ok (text_of v.0, v.1)
-held_text (Err e) = Err e

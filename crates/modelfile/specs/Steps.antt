@@ -6,6 +6,8 @@ use Rattle.modelfile.specs.Records.{Fields, of_header, of_state, of_choice, head
 use Rattle.modelfile.specs.declared.fault.FileFault.{FileFault}
 use Rattle.modelfile.specs.declared.fault.FileFault.TheVariants.{Trailing, TooLong}
 use Rattle.modelfile.specs.declared.record.Record.{Record}
+use Rattle.modelfile.specs.declared.reader.Due.{Due}
+use Rattle.modelfile.specs.declared.reader.Due.TheVariants.{Header, Rows}
 use Rattle.modelfile.specs.declared.reader.Reader.{Reader}
 
 -- where the reader stands: whether the header was read, the next byte,
@@ -41,8 +43,13 @@ step file c =
     (and_then (of_file (header file c.at)) (λ v.
     Ok (Some (of_header v.0), standing true v.1 v.0.states 0)))
 
+-- where a reader stands that has its next byte at a place
+abbrev pub due_at : Due → ℕ → Cursor
+due_at Header at = standing false at 0 0
+due_at (Rows choices states) at = standing true at states choices
+
 abbrev pub cursor_of : Reader → Cursor
-cursor_of r = standing r.begun r.at r.states r.choices
+cursor_of r = due_at r.due r.cursor.at
 
 -- a new reader's place
 abbrev pub new_cursor : Result Reader FileFault → Result Cursor FileFault

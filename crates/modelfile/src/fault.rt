@@ -3,7 +3,7 @@ ghost use Rattle.modelfile.specs.Faults.{notice_of};
 ghost use Rattle.modelfile.specs.declared.fault.RecordFault.TheVariants.{Bytes};
 ghost use Rattle.modelfile.specs.declared.fault.FileFault.TheVariants.{Unread};
 
-// What stops the byte reader.
+// What stops the byte reader. An enum of one kind, as a struct would be no plainer: its variant says what is wrong.
 #[derive(Clone, Copy, PartialEq, Eq, Debug)]
 pub enum ByteFault {
     // the field that starts at `at` lacks bytes
@@ -54,22 +54,18 @@ pub struct FileNotice {
     pub place: Option<usize>,
 }
 
-fn noted(number: u32, place: Option<usize>) -> FileNotice
-    ensures { (result.number ≡ number) × (result.place ≡ place) }
-{
-    FileNotice { number, place }
-}
-
 impl FileFault {
+    // The refusal as it is reported.
     pub fn notice(&self) -> FileNotice
         ensures { result ≡ notice_of self.now }
     {
-        match *self {
-            FileFault::Unread(RecordFault::Bytes(ByteFault::Lacking { at })) => noted(31, Some(at)),
-            FileFault::Unread(RecordFault::UnknownBit { at }) => noted(32, Some(at)),
-            FileFault::Trailing { at } => noted(33, Some(at)),
-            FileFault::TooLong => noted(34, None),
-            FileFault::ShortList => noted(26, None),
-        }
+        let (number, place) = match *self {
+            FileFault::Unread(RecordFault::Bytes(ByteFault::Lacking { at })) => (31, Some(at)),
+            FileFault::Unread(RecordFault::UnknownBit { at }) => (32, Some(at)),
+            FileFault::Trailing { at } => (33, Some(at)),
+            FileFault::TooLong => (34, None),
+            FileFault::ShortList => (26, None),
+        };
+        FileNotice { number, place }
     }
 }

@@ -1,7 +1,7 @@
 // The model file: from its bytes to the three lists that a list source reads.
 #![tactic(auto)]
 
-mod bytes;
+mod cursor;
 mod fault;
 mod fill;
 mod lists;

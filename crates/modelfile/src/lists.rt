@@ -1,48 +1,32 @@
-ghost use Rattle.std.specs.Prelude.{◌≡◌, ◌&&◌, length, nat_le};
+ghost use Rattle.std.specs.Prelude.{◌≡◌, length};
 ghost use Rattle.modelfile.specs.File.{read_file};
 ghost use Rattle.modelfile.specs.Lists.{outcome, answered, after_call, model_states, model_choices, model_branches};
 ghost use Rattle.modelfile.specs.Law.{FileLaw};
-ghost use Rattle.modelfile.specs.Filling.{filled, tallied};
+ghost use Rattle.modelfile.specs.Filling.{counts, filled, tallied, SameLists};
 
 use crate::fault::FileFault;
-use crate::fill::place;
+use crate::fill::Lists;
 use crate::loaded::Loaded;
 use crate::reader::Reader;
 use sources::{ChoiceRow, StateRow};
 
-// Reads a file to its end and puts its rows into the lists as far as these reach.
-fn walk(
-    file: &[u8],
-    states: &mut [StateRow],
-    choices: &mut [ChoiceRow],
-    branches: &mut [(u32, u32)],
-) -> Result<Loaded, FileFault>
-    ensures { tallied result states.new choices.new branches.new ≡ filled (read_file file.now) states.old choices.old branches.old }
+// Reads a file to its end and puts its rows into lists as far as these reach.
+fn walk(file: &[u8], lists: &mut Lists) -> Result<Loaded, FileFault>
+    requires { lists.old.used ≡ counts 1 0 0 0 }
+    ensures filled { tallied result lists.new.states.now lists.new.choices.now lists.new.branches.now ≡ filled (read_file file.now) lists.old.states.now lists.old.choices.now lists.old.branches.now }
+    ensures same { SameLists lists.old lists.new }
 {
     let mut reader = Reader::new(file)?;
-    let mut counts = Loaded {
-        denominator: 1,
-        states: 0,
-        choices: 0,
-        branches: 0,
-    };
+    // no `for`: the reader is not an `Iterator`, as `next` says
     while let Some(item) = reader.next()? {
-        counts = place(&item, counts, states, choices, branches);
+        lists.place(&item);
     }
-    Ok(counts)
-}
-
-// Whether lists of these lengths have a place for each row.
-fn fits(need: &Loaded, states: usize, choices: usize, branches: usize) -> bool
-    ensures { result ≡ (nat_le need.now.states states && nat_le need.now.choices choices && nat_le need.now.branches branches) }
-{
-    need.states as usize <= states
-        && need.choices as usize <= choices
-        && need.branches as usize <= branches
+    Ok(lists.used)
 }
 
 // Reads a file into the caller's lists, and answers the denominator and how many places of each list are used.
 // On a refusal the lists hold what they held before.
+// The lists are slices with counts and not `Vec`s: this public function promises to fill the caller's own places, and allocates nothing.
 pub fn load(
     file: &[u8],
     states: &mut [StateRow],
@@ -55,9 +39,11 @@ pub fn load(
     ensures branches { branches.new ≡ after_call (outcome file.now (length states.old) (length choices.old) (length branches.old)) model_branches branches.old }
     ensures law { FileLaw file.now }
 {
-    let need = walk(file, &mut [], &mut [], &mut [])?;
-    if !fits(&need, states.len(), choices.len(), branches.len()) {
+    let mut lists = Lists::new(states, choices, branches);
+    // into empty lists: this only counts
+    let need = walk(file, &mut Lists::new(&mut [], &mut [], &mut []))?;
+    if !lists.fit(&need) {
         return Err(FileFault::ShortList);
     }
-    walk(file, states, choices, branches)
+    walk(file, &mut lists)
 }

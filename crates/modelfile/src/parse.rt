@@ -1,67 +1,64 @@
-ghost use Rattle.std.specs.Prelude.{◌≡◌, ℕ, ◌^◌, ◌<◌, IfOk};
-ghost use Rattle.modelfile.specs.Records.{header, state, choice, header_read, state_read, choice_read};
+ghost use Rattle.std.specs.Prelude.{◌≡◌, ℕ, ◌+◌, ◌^◌, ◌<◌, IfOk};
+ghost use Rattle.modelfile.specs.Reading.{ReadsOn};
+ghost use Rattle.modelfile.specs.Records.{LowestBits, bit_map, header, state, choice, header_of, choice_of};
 
-use crate::bytes::{byte, optional_branches, optional_signed, optional_text, optional_word, short};
+use crate::cursor::ByteCursor;
 use crate::fault::RecordFault;
 use crate::record::{Choice, Header, State};
 
+// The bits of a header's bit map.
 const DENOMINATOR: u32 = 1;
 
 const NAME: u32 = 2;
 
+// The bits of a choice's bit map.
 const REWARD: u32 = 1;
 
 const BRANCHES: u32 = 2;
 
 const LABEL: u32 = 4;
 
-// The header at `at`, and the place just past it.
-pub(crate) fn header(file: &[u8], at: usize) -> Result<(Header<'_>, usize), RecordFault>
-    ensures { header_read result ≡ header file.now at }
-{
-    let (map, first) = byte(file, at)?;
-    if map > DENOMINATOR + NAME {
-        return Err(RecordFault::UnknownBit { at });
+impl<'a> ByteCursor<'a> {
+    // A bit map, which says which fields follow; `every` has the bits of all of them.
+    fn bit_map(&mut self, every: u32) -> Result<u32, RecordFault>
+        requires { LowestBits every }
+        ensures { ReadsOn (λ v. v) (bit_map every) self.old self.new result }
+    {
+        let at = self.at;
+        let map = self.number(1)?;
+        if map & !every != 0 {
+            return Err(RecordFault::UnknownBit { at });
+        }
+        Ok(map)
     }
-    let (denominator, second) = optional_word(file, first, map & DENOMINATOR != 0)?;
-    let (name, third) = optional_text(file, second, map & NAME != 0)?;
-    let (states, next) = short(file, third)?;
-    Ok((
-        Header {
-            denominator,
-            name,
-            states,
-        },
-        next,
-    ))
-}
 
-// The state at `at`, and the place just past it.
-pub(crate) fn state(file: &[u8], at: usize) -> Result<(State, usize), RecordFault>
-    ensures value { state_read result ≡ state file.now at }
-    ensures small { IfOk result (λ v. v.0.choices < 2 ^ 8) }
-{
-    let (choices, next) = byte(file, at)?;
-    Ok((State { choices }, next))
-}
-
-// The choice at `at`, and the place just past it.
-pub(crate) fn choice(file: &[u8], at: usize) -> Result<(Choice<'_>, usize), RecordFault>
-    ensures { choice_read result ≡ choice file.now at }
-{
-    let (map, first) = byte(file, at)?;
-    if map > REWARD + BRANCHES + LABEL {
-        return Err(RecordFault::UnknownBit { at });
+    pub(crate) fn header(&mut self) -> Result<Header<'a>, RecordFault>
+        ensures { ReadsOn header_of header self.old self.new result }
+    {
+        let map = self.bit_map(DENOMINATOR | NAME)?;
+        Ok(Header {
+            denominator: self.optional(map & DENOMINATOR != 0, |cursor| cursor.number(4))?,
+            name: self.optional(map & NAME != 0, ByteCursor::text)?,
+            states: self.number(2)?,
+        })
     }
-    let (reward, second) = optional_signed(file, first, map & REWARD != 0)?;
-    let (branches, third) = optional_branches(file, second, map & BRANCHES != 0)?;
-    let (label, next) = optional_text(file, third, map & LABEL != 0)?;
-    Ok((
-        Choice {
-            reward,
-            branches,
-            label,
-        },
-        next,
-    ))
+
+    pub(crate) fn state(&mut self) -> Result<State, RecordFault>
+        ensures { ReadsOn (λ s. s.choices) state self.old self.new result }
+    {
+        Ok(State {
+            choices: self.number(1)?,
+        })
+    }
+
+    pub(crate) fn choice(&mut self) -> Result<Choice<'a>, RecordFault>
+        ensures { ReadsOn choice_of choice self.old self.new result }
+    {
+        let map = self.bit_map(REWARD | BRANCHES | LABEL)?;
+        Ok(Choice {
+            reward: self.optional(map & REWARD != 0, ByteCursor::signed)?,
+            branches: self.optional(map & BRANCHES != 0, ByteCursor::branches)?,
+            label: self.optional(map & LABEL != 0, ByteCursor::text)?,
+        })
+    }
 }

@@ -1,12 +1,16 @@
+use crate::cursor::ByteCursor;
+
+// What a reader hands out next.
+#[derive(Clone, Copy)]
+pub(crate) enum Due {
+    Header,
+    // the choices of the present state that are still to come, then as many states; then the end
+    Rows { choices: u32, states: u32 },
+}
+
 // Hands out the records of a file one by one.
 #[derive(Drop)]
 pub struct Reader<'a> {
-    pub(crate) file: &'a [u8],
-    // the next byte
-    pub(crate) at: usize,
-    pub(crate) begun: bool,
-    // how many states are still to come
-    pub(crate) states: u32,
-    // how many choices of the present state are still to come
-    pub(crate) choices: u32,
+    pub(crate) cursor: ByteCursor<'a>,
+    pub(crate) due: Due,
 }

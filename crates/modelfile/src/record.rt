@@ -1,5 +1,5 @@
 // The first record of a file: its denominator and its name, where they stand, and how many states follow.
-#[derive(Clone, Copy)]
+#[derive(Clone, Copy, PartialEq, Eq, Debug)]
 pub struct Header<'a> {
     pub denominator: Option<u32>,
     pub name: Option<&'a [u8]>,
@@ -7,13 +7,13 @@ pub struct Header<'a> {
 }
 
 // A state: how many choices follow.
-#[derive(Clone, Copy)]
+#[derive(Clone, Copy, PartialEq, Eq, Debug)]
 pub struct State {
     pub choices: u32,
 }
 
 // A choice: its reward, its branches, 6 bytes each, and its label, where they stand.
-#[derive(Clone, Copy)]
+#[derive(Clone, Copy, PartialEq, Eq, Debug)]
 pub struct Choice<'a> {
     pub reward: Option<i32>,
     pub branches: Option<&'a [u8]>,
@@ -21,7 +21,7 @@ pub struct Choice<'a> {
 }
 
 // A record of a file; its texts and branches are parts of the file's bytes.
-#[derive(Clone, Copy)]
+#[derive(Clone, Copy, PartialEq, Eq, Debug)]
 pub enum Record<'a> {
     Header(Header<'a>),
     State(State),

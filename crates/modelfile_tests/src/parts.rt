@@ -19,13 +19,18 @@ pub(crate) const CHOICE: ChoiceRow = ChoiceRow {
     count: 9,
 };
 
-// The numbers of a row.
-pub(crate) fn of_state(row: StateRow) -> (u32, u32) {
-    (row.first, row.count)
+// The row of a state.
+pub(crate) fn state(first: u32, count: u32) -> StateRow {
+    StateRow { first, count }
 }
 
-pub(crate) fn of_choice(row: ChoiceRow) -> (i32, u32, u32) {
-    (row.reward, row.first, row.count)
+// The row of a choice.
+pub(crate) fn choice(reward: i32, first: u32, count: u32) -> ChoiceRow {
+    ChoiceRow {
+        reward,
+        first,
+        count,
+    }
 }
 
 pub(crate) fn at(number: u32, place: Option<usize>) -> FileNotice {

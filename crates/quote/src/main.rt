@@ -1,7 +1,6 @@
 // Quotes of the model in model.bin: each line of standard input is answered as it comes.
 #![tactic(auto)]
 
-use console::next_line;
 use quoting::Console;
 use std::fs::File;
 use std::io;
@@ -34,15 +33,9 @@ fn model_file(rt: &HostRuntime) -> io::Result<Vec<u8>> {
 }
 
 fn answer_lines(rt: &HostRuntime, mut console: Console) -> io::Result<()> {
-    let mut input = BufReader::new(rt.alloc(), rt.stdin())?;
-    let mut line = Vec::new(rt.alloc());
-    for _ in 0..u64::MAX {
-        line.clear();
-        input.read_until(b'\n', &mut line)?;
-        let Some((end, _)) = next_line(&line, 0) else {
-            break;
-        };
-        let answer = console.answer(rt.alloc(), &line[..end])?;
+    let input = BufReader::new(rt.alloc(), rt.stdin())?;
+    for line in input.split(rt.alloc(), b'\n') {
+        let answer = console.answer(rt.alloc(), &line?)?;
         println!(rt; "{answer}")?;
         rt.stdout().flush()?;
     }

@@ -1,43 +1,39 @@
 -- The start of a run.
-use Rattle.std.proofs.Common.{◌≡◌, ℕ, Bool, true, false, List, [], ◌∷◌, ◌++◌, IfSome, is_err, IfOk, Some, None, Ok, Err, Option, Result, sym, refl, ap, ◌∙◌, append-nil, arith}
+use Rattle.std.proofs.Common.{◌≡◌, ℕ, Bool, List, [], ◌∷◌, ◌++◌, IfSome, IfOk, Some, None, Ok, Err, Option, Result, sym, refl, ap, ◌∙◌, append-nil, arith}
 use Rattle.std.specs.Option.{option_map}
 use Rattle.table.specs.Table.{Table}
 use Rattle.modelfile.specs.Lists.{outcome}
 use Rattle.modelfile.specs.declared.fault.FileFault.{FileFault}
 use Rattle.history.specs.Calls.{State, idle, loaded, standing, opened}
-use Rattle.history.specs.Answers.{Answer, answer, answer_idle, answer_loaded}
+use Rattle.history.specs.Answers.{refused as answer_refused, stands, answer, answer_idle, answer_loaded}
 use Rattle.history.specs.declared.refusal.Refusal.{Refusal}
 use Rattle.console.specs.Inputs.{lines_of}
-use Rattle.engine.specs.States.{stands_answer}
 use Rattle.quoting.specs.Refused.{refused_file}
-use Rattle.quoting.specs.Replies.{written}
 use Rattle.quoting.specs.Models.{table_read}
-use Rattle.quoting.specs.Runs.{opening, begins, begins_with, start, replies, goes_on, transcript, bytes_of}
+use Rattle.quoting.specs.Runs.{begins, begins_with, start, replies, goes_on, transcript, bytes_of}
 use Rattle.quoting.specs.Consoles.{held, Opened}
 use Rattle.quoting.specs.declared.session.Console.{Console}
-
-begins_line : (S : State) → opening S ≡ (begins S).0
-begins_line (idle e) = refl
-begins_line (loaded T B) = refl
-
-pub first_line : (S : State) (a : Answer) (bytes : List ℕ) → a ≡ answer S standing → bytes ≡ written 0 76 0 a → bytes ≡ (begins S).0
-first_line S a bytes e h = h ∙ ap (written 0 76 0) e ∙ begins_line S
 
 never : {A : Type 0} → ◌≡◌ {A = ℕ} 0 1 → A
 never e = absurd (omega arith)
 
 -- a refused model ends the run, and else it goes on
-pub ends : (S : State) (r : Result (ℕ × ℕ) Refusal) → stands_answer r ≡ answer S standing → is_err r ≡ true → ◌≡◌ {A = Option State} None (begins S).1
+pub ends : (S : State) (e : Refusal) → answer_refused e ≡ answer S standing → ◌≡◌ {A = Option State} None (begins S).1
 unfolding answer answer_idle answer_loaded
-ends (idle e) r h t = refl
-ends (loaded T B) (Ok a) h t = never (cc)
-ends (loaded T B) (Err e) h t = never (cc)
+ends (idle f) e h = refl
+ends (loaded T B) e h = never (cc)
 
-pub goes : (S : State) (r : Result (ℕ × ℕ) Refusal) → stands_answer r ≡ answer S standing → is_err r ≡ false → Some S ≡ (begins S).1
+pub goes : (S : State) (a : ℕ × ℕ) → stands a.0 a.1 ≡ answer S standing → Some S ≡ (begins S).1
 unfolding answer answer_idle answer_loaded
-goes (idle e) (Ok a) h t = never (cc)
-goes (idle e) (Err f) h t = never (cc)
-goes (loaded T B) r h t = refl
+goes (idle e) a h = never (cc)
+goes (loaded T B) a h = refl
+
+-- the lists have a place for 256 states, 1,024 choices and 4,096 branches
+pub sized : (file : List ℕ) (states choices branches : ℕ) (o : Result Table FileFault) → states ≡ 256 → choices ≡ 1024 → branches ≡ 4096
+    → o ≡ table_read (outcome file states choices branches) → o ≡ table_read (outcome file 256 1024 4096)
+sized file states choices branches o s c b h =
+    h ∙ ap (λ (n : ℕ). table_read (outcome file n choices branches)) s ∙ ap (λ (n : ℕ). table_read (outcome file 256 n branches)) c
+    ∙ ap (λ (n : ℕ). table_read (outcome file 256 1024 n)) b
 
 -- an engine on the table of the file
 pub begun : (file : List ℕ) (memory : Bool) (S : State) (T : Table) → Ok T ≡ table_read (outcome file 256 1024 4096) → S ≡ opened T memory → begins S ≡ start file memory

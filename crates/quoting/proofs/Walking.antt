@@ -1,15 +1,23 @@
 -- The answers to the lines of an input, one line after the other.
-use Rattle.std.proofs.Common.{◌≡◌, ℕ, suc, ◌<◌, cond, List, [], ◌∷◌, ◌++◌, drop, is_ok, IfOk, Ok, Err, Option, Result, sym, ap, ◌∙◌, append_assoc, arith}
+use Rattle.std.proofs.Common.{◌≡◌, ℕ, suc, ◌<◌, ◌≤◌, eqb, List, [], ◌∷◌, ◌++◌, length, sym, ap, ◌∙◌, append_assoc, arith}
+use Rattle.std.proofs.lemmas.Bool.{cond_both}
 use Rattle.history.specs.Calls.{State, run}
 use Rattle.console.specs.Commands.{command_of}
-use Rattle.console.specs.Inputs.{lines_of, next_line, lines_by, LinesLaw}
+use Rattle.console.specs.Inputs.{extended, lines_of}
 use Rattle.quoting.specs.Replies.{call_in, reply}
 use Rattle.quoting.specs.Runs.{replies, bytes_of}
 use Rattle.quoting.specs.Consoles.{counted}
 
--- the lines from a place on, by the line that was found there
-pub lines-by : (input : List ℕ) (from : ℕ) (found : Option (ℕ × ℕ)) → LinesLaw input → found ≡ next_line input from → lines_of (drop from input) ≡ lines_by input from found
-lines-by input from found law e = law.walk from ∙ ap (lines_by input from) (sym e)
+-- no more lines than bytes
+longer : (b : ℕ) (lines : List (List ℕ)) → length (extended b lines) ≤ suc (length lines)
+longer b [] = omega arith
+longer b (l ∷ ls) = omega arith
+
+pub lines_few : (input : List ℕ) → length (lines_of input) ≤ length input
+lines_few [] = omega arith
+lines_few (b ∷ bs) =
+    cond_both (eqb b 10) ([] ∷ lines_of bs) (extended b (lines_of bs)) (λ (lines : List (List ℕ)). length lines ≤ length (b ∷ bs))
+    (λ _. omega (arith, lines_few bs)) (λ _. omega (arith, lines_few bs, longer b (lines_of bs)))
 
 -- a line is answered, and its answer stands behind those before it
 pub line_more : (done whole line bytes : List ℕ) (rest lines : List (List ℕ)) (n m : ℕ) (S T : State) → lines ≡ line ∷ rest → n < 18446744073709551615
@@ -27,9 +35,3 @@ line_more done whole line bytes rest lines n m S T l few b k t h =
     ∙ ap (λ (ls : List (List ℕ)). done ++ ((reply (suc n) S line ++ (10 ∷ [])) ++ bytes_of ls)) later
     ∙ sym (ap (λ (ls : List (List ℕ)). done ++ bytes_of (replies (suc n) S ls)) l)
     ∙ h
-
--- a line and its line feed
-pub line_put : {E : Type 0} (r : Result (Unit {0}) E) (old mid new line : List ℕ) → mid ≡ old ++ line → new ≡ cond (is_ok r) (mid ++ (10 ∷ [])) mid
-    → IfOk r (λ _. new ≡ old ++ (line ++ (10 ∷ [])))
-line_put (Ok x) old mid new line e h = h ∙ ap (λ (bs : List ℕ). bs ++ (10 ∷ [])) e ∙ append_assoc old line (10 ∷ [])
-line_put (Err x) old mid new line e h = tt

@@ -4,21 +4,21 @@ ghost use Rattle.history.specs.Answers.{answer as answer_to};
 ghost use Rattle.console.specs.Commands.{command_of};
 ghost use Rattle.console.specs.Spelling.{letter_of};
 ghost use Rattle.engine.specs.States.{state_of};
-ghost use Rattle.quoting.specs.Replies.{reply, written, states_of, call_of, call_in};
+ghost use Rattle.quoting.specs.Replies.{reply as reply_to, written, states_of, call_of, call_in};
 ghost use Rattle.quoting.specs.Consoles.{held, counted};
 
 use crate::open::MOST_STATES;
-use crate::refused::unread;
-use crate::reply::{close_reply, plan_reply, quote_reply, refine_reply, sweep_reply};
+use crate::refused::{refused_call, unread};
+use crate::reply::reply;
 use crate::session::Console;
-use console::{Command, read_command};
+use console::{Command, close_line, plan_line, quote_line, read_command, refine_line, sweep_line};
 use engine::Engine;
 use std::alloc::{AllocError, Global};
 
 impl Console {
     // The answer to the next line; neither has its line feed. Without memory for the text the call is made all the same.
     pub fn answer(&mut self, heap: Global, line: &[u8]) -> Result<String, AllocError>
-        ensures bytes { IfOk result (λ t. string_bytes t ≡ reply (counted self.old.lines) (held self.old) line.now) }
+        ensures bytes { IfOk result (λ t. string_bytes t ≡ reply_to (counted self.old.lines) (held self.old) line.now) }
         ensures count { self.new.lines ≡ counted self.old.lines }
         ensures engine { held self.new ≡ run_calls (held self.old) (call_in (command_of line.now)) }
     {
@@ -45,11 +45,24 @@ fn perform(
             component,
             steps,
             width,
-        } => refine_reply(heap, line, engine.refine(component, steps, width)),
-        Command::Sweep { count } => sweep_reply(heap, line, engine.sweep(count)),
-        Command::Quote { state, width } => quote_reply(heap, line, engine.quote(state, width)),
+        } => {
+            let refined = engine.refine(component, steps, width);
+            reply(heap, line, refined, |(steps, lo, hi)| {
+                refine_line(heap, steps, lo, hi)
+            })
+        }
+        Command::Sweep { count } => {
+            let swept = engine.sweep(count);
+            reply(heap, line, swept, |sweeps| sweep_line(heap, sweeps))
+        }
+        Command::Quote { state, width } => {
+            let quoted = engine.quote(state, width);
+            reply(heap, line, quoted, |(lower, upper, mark)| {
+                quote_line(heap, lower, upper, mark)
+            })
+        }
         Command::Plan => plan(heap, engine, line),
-        Command::Close => close_reply(heap, line, engine.close()),
+        Command::Close => reply(heap, line, engine.close(), |()| close_line(heap)),
     }
 }
 
@@ -58,18 +71,18 @@ fn plan(heap: Global, engine: &mut Engine, line: u64) -> Result<String, AllocErr
     ensures bytes { IfOk result (λ t. string_bytes t ≡ written line 80 (states_of (state_of engine.old)) (answer_to (state_of engine.old) (call_of Command.Plan))) }
     ensures engine { state_of engine.new ≡ next (state_of engine.old) (call_of Command.Plan) }
 {
-    let mut list = [0; MOST_STATES];
     let states = states(engine);
-    let result = engine.plan(&mut list);
-    plan_reply(heap, line, result, states, &list)
+    // An array, and not a `Vec`: the call is made even where there is no memory.
+    let mut list = [0; MOST_STATES];
+    match engine.plan(&mut list) {
+        Ok(()) => plan_line(heap, &list[..states]),
+        Err(refusal) => refused_call(heap, line, refusal),
+    }
 }
 
 // How many states there are.
 fn states(engine: &Engine) -> usize
     ensures { result ≡ states_of (state_of engine.now) }
 {
-    match engine.standing() {
-        Ok((states, _)) => states as usize,
-        Err(_) => 0,
-    }
+    engine.standing().map_or(0, |(states, _)| states as usize)
 }

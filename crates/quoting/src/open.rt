@@ -5,35 +5,28 @@ ghost use Rattle.quoting.specs.Runs.{begins};
 ghost use Rattle.quoting.specs.Consoles.{held, Opened};
 
 use crate::read::read_model;
-use crate::refused::refused_file;
-use crate::reply::standing_reply;
+use crate::refused::{refused_call, refused_file};
 use crate::session::Console;
+use console::loaded_line;
 use engine::Engine;
 use sources::{ChoiceRow, StateRow};
 use std::alloc::{AllocError, Global};
 
+// A file with more rows than these is refused with the number 26.
 pub(crate) const MOST_STATES: usize = 256;
 
 const MOST_CHOICES: usize = 1024;
 
 const MOST_BRANCHES: usize = 4096;
 
-const NO_STATE: StateRow = StateRow { first: 0, count: 0 };
-
-const NO_CHOICE: ChoiceRow = ChoiceRow {
-    reward: 0,
-    first: 0,
-    count: 0,
-};
-
 impl Console {
     // The first line of a run with this model file, and the console, unless the file or its model is refused.
     pub fn open(heap: Global, file: &[u8]) -> Result<(String, Option<Console>), AllocError>
         ensures { IfOk result (λ p. Opened file.now (string_bytes p.0) p.1) }
     {
-        let mut states = [NO_STATE; MOST_STATES];
-        let mut choices = [NO_CHOICE; MOST_CHOICES];
-        let mut branches = [(0, 0); MOST_BRANCHES];
+        let mut states = vec![in heap; StateRow::default(); MOST_STATES]?;
+        let mut choices = vec![in heap; ChoiceRow::default(); MOST_CHOICES]?;
+        let mut branches = vec![in heap; (0, 0); MOST_BRANCHES]?;
         match read_model(file, &mut states, &mut choices, &mut branches) {
             Ok(list) => begin(heap, Engine::open(heap, &list)),
             Err(fault) => Ok((refused_file(heap, fault)?, None)),
@@ -47,10 +40,11 @@ fn begin(heap: Global, engine: Engine) -> Result<(String, Option<Console>), Allo
     ensures engine { IfOk result (λ p. option_map held p.1 ≡ (begins (state_of engine)).1) }
     ensures count { IfOk result (λ p. IfSome p.1 (λ c. c.lines ≡ 0)) }
 {
-    let standing = engine.standing();
-    let line = standing_reply(heap, 0, standing)?;
-    if standing.is_err() {
-        return Ok((line, None));
+    match engine.standing() {
+        Ok((states, components)) => {
+            let line = loaded_line(heap, states, components)?;
+            Ok((line, Some(Console { engine, lines: 0 })))
+        }
+        Err(refusal) => Ok((refused_call(heap, 0, refusal)?, None)),
     }
-    Ok((line, Some(Console { engine, lines: 0 })))
 }

@@ -6,6 +6,7 @@ use history::Refusal;
 use modelfile::FileFault;
 use std::alloc::{AllocError, Global};
 
+// No call and no file has this refusal, so it is not a variant of theirs.
 const UNREAD: u64 = 35;
 
 // The line of a refused call; `line` is the number of its command's line.
@@ -16,10 +17,8 @@ pub(crate) fn refused_call(heap: Global, line: u64, refusal: Refusal) -> Result<
     let number = u64::from(notice.number);
     match refusal {
         Refusal::Table(_) => {
-            let state = u64::from(notice.state);
-            let choice = u64::from(notice.choice);
-            let branch = u64::from(notice.branch);
-            refusal_line(heap, number, &[state, choice, branch])
+            let places = [notice.state, notice.choice, notice.branch].map(u64::from);
+            refusal_line(heap, number, &places)
         }
         Refusal::Memory => refusal_line(heap, number, &[]),
         _ => refusal_line(heap, number, &[line]),
@@ -32,10 +31,8 @@ pub(crate) fn refused_file(heap: Global, fault: FileFault) -> Result<String, All
 {
     let notice = fault.notice();
     let number = u64::from(notice.number);
-    match notice.place {
-        Some(at) => refusal_line(heap, number, &[at as u64]),
-        None => refusal_line(heap, number, &[]),
-    }
+    let place = notice.place.map(|at| at as u64);
+    refusal_line(heap, number, place.as_slice())
 }
 
 // The line of a line that spells no command.

@@ -1,11 +1,12 @@
-ghost use Rattle.std.specs.Prelude.{◌≡◌, Bool, [], ◌∷◌, ◌++◌, IfOk, string_bytes, OnOk};
+ghost use Rattle.std.specs.Prelude.{◌≡◌, Bool, ◌++◌, IfOk, string_bytes, OnOk};
 ghost use Rattle.console.specs.Inputs.{lines_of};
 ghost use Rattle.quoting.specs.Runs.{transcript as written, bytes_of, replies, RepliesLaw};
 ghost use Rattle.quoting.specs.Consoles.{held};
 
 use crate::session::Console;
-use console::next_line;
+use console::Lines;
 use std::alloc::{AllocError, Global};
+use std::fmt::Write;
 
 // What a whole run writes for a model file and an input.
 pub fn transcript(heap: Global, file: &[u8], input: &[u8]) -> Result<String, AllocError>
@@ -13,8 +14,7 @@ pub fn transcript(heap: Global, file: &[u8], input: &[u8]) -> Result<String, All
     ensures law { RepliesLaw }
 {
     let (first, console) = Console::open(heap, file)?;
-    let mut text = String::new(heap);
-    put_line(&mut text, &first)?;
+    let mut text = format!(in heap; "{first}\n")?;
     if let Some(console) = console {
         put_replies(heap, &mut text, console, input)?;
     }
@@ -31,19 +31,9 @@ fn put_replies(
     requires { console.lines ≡ 0 }
     ensures { OnOk result (string_bytes text.new ≡ string_bytes text.old ++ bytes_of (replies 1 (held console) (lines_of input.now))) }
 {
-    let mut from = 0;
-    while let Some((end, next)) = next_line(input, from) {
-        let line = console.answer(heap, &input[from..end])?;
-        put_line(text, &line)?;
-        from = next;
+    for line in Lines::new(input) {
+        let answer = console.answer(heap, line)?;
+        writeln!(text, "{answer}")?;
     }
     Ok(())
-}
-
-// Adds a line and its line feed.
-fn put_line(text: &mut String, line: &String) -> Result<(), AllocError>
-    ensures { OnOk result (string_bytes text.new ≡ string_bytes text.old ++ (string_bytes line.now ++ (10 ∷ []))) }
-{
-    text.push_str(line.as_str())?;
-    text.push_str("\n")
 }

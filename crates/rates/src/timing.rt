@@ -1,37 +1,52 @@
 use engine::Engine;
-use std::time::Instant;
+use history::Refusal;
+use std::time::{Duration, Instant};
 use table::Source;
 
 // How much was done and in what time.
-#[derive(Clone, Copy)]
+#[derive(Clone, Copy, Default)]
 struct Work {
     done: u64,
-    nanos: u128,
+    time: Duration,
 }
 
 impl Work {
-    fn none() -> Work {
-        Work { done: 0, nanos: 0 }
-    }
-
-    // With so much done since then.
-    fn after(self, rt: &HostRuntime, start: Instant, done: u64) -> anyhow::Result<Work> {
-        let nanos = start.elapsed(rt)?.as_nanos();
-        Ok(Work {
-            done: self.done.wrapping_add(done),
-            nanos: self.nanos.wrapping_add(nanos),
-        })
-    }
-
     // Done in a second.
     fn rate(self) -> u128 {
-        u128::from(self.done) * 1_000_000_000 / self.nanos.max(1)
+        u128::from(self.done) * 1_000_000_000 / self.time.as_nanos().max(1)
     }
 }
 
 // A checksum with one more number.
 fn mixed(sum: i64, number: i64) -> i64 {
     sum.wrapping_mul(31).wrapping_add(number)
+}
+
+fn refused(refusal: Refusal) -> anyhow::Error {
+    let number = refusal.notice().number;
+    anyhow::anyhow!("refused with {number}")
+}
+
+// Times so many rounds; each gives how much it did. What `prepare` does before each is not timed.
+fn time<P: Fn(&mut Engine) -> anyhow::Result<()>, R: FnMut(&mut Engine) -> anyhow::Result<u64>>(
+    rt: &HostRuntime,
+    engine: &mut Engine,
+    rounds: u32,
+    prepare: P,
+    mut round: R,
+) -> anyhow::Result<Work>
+    requires prepare { P.IsAlwaysCallable prepare }
+    requires round { R.IsAlwaysCallable round }
+{
+    let mut work = Work::default();
+    for _ in 0..rounds {
+        prepare(engine)?;
+        let start = Instant::now(rt)?;
+        let done = round(engine)?;
+        work.time = work.time.saturating_add(start.elapsed(rt)?);
+        work.done = work.done.saturating_add(done);
+    }
+    Ok(work)
 }
 
 // Loads that were accepted.
@@ -41,75 +56,82 @@ fn time_loads<S: Source>(
     rounds: u32,
     source: &S,
 ) -> anyhow::Result<Work> {
-    let mut work = Work::none();
-    for round in 0..rounds {
-        let start = Instant::now(rt)?;
-        let loaded = engine.load(rt.alloc(), source);
-        let done = if let Ok(()) = loaded { 1 } else { 0 };
-        work = work.after(rt, start, done)?;
-    }
-    Ok(work)
+    time(
+        rt,
+        engine,
+        rounds,
+        |_| Ok(()),
+        |engine| {
+            engine.load(rt.alloc(), source).map_err(refused)?;
+            Ok(1)
+        },
+    )
 }
 
 // Refine steps made in component 0, each time from the start; the checksum has the bounds after each.
 fn time_refines(rt: &HostRuntime, engine: &mut Engine, rounds: u32) -> anyhow::Result<(Work, i64)> {
-    let mut work = Work::none();
     let mut sum = 0;
-    for round in 0..rounds {
-        let _ = engine.close();
-        let start = Instant::now(rt)?;
-        if let Ok((made, lo, hi)) = engine.refine(0, 1000, 0) {
-            work = work.after(rt, start, made)?;
+    let work = time(
+        rt,
+        engine,
+        rounds,
+        |engine| engine.close().map_err(refused),
+        |engine| {
+            let (made, lo, hi) = engine.refine(0, 1000, 0).map_err(refused)?;
             sum = mixed(mixed(sum, lo), hi);
-        }
-    }
+            Ok(made)
+        },
+    )?;
     Ok((work, sum))
 }
 
 // Sweeps made, each time from the start but for component 0, which was refined.
 fn time_sweeps(rt: &HostRuntime, engine: &mut Engine, rounds: u32) -> anyhow::Result<Work> {
-    let mut work = Work::none();
-    for round in 0..rounds {
-        let _ = engine.close();
-        let _ = engine.refine(0, 100, 0);
-        let start = Instant::now(rt)?;
-        if let Ok(made) = engine.sweep(1000) {
-            work = work.after(rt, start, made)?;
-        }
-    }
-    Ok(work)
+    time(
+        rt,
+        engine,
+        rounds,
+        |engine| {
+            engine.close().map_err(refused)?;
+            engine.refine(0, 100, 0).map_err(refused)?;
+            Ok(())
+        },
+        |engine| engine.sweep(1000).map_err(refused),
+    )
 }
 
 // Quotes of all states; the checksum has their bounds.
 fn time_quotes(
     rt: &HostRuntime,
-    engine: &Engine,
+    engine: &mut Engine,
     states: u32,
     rounds: u32,
 ) -> anyhow::Result<(Work, i64)> {
-    let mut work = Work::none();
     let mut sum = 0;
-    for round in 0..rounds {
-        let start = Instant::now(rt)?;
-        for state in 0..states {
-            if let Ok((lower, upper, _)) = engine.quote(u64::from(state), 0) {
+    let work = time(
+        rt,
+        engine,
+        rounds,
+        |_| Ok(()),
+        |engine| {
+            for state in 0..states {
+                let (lower, upper, _) = engine.quote(u64::from(state), 0).map_err(refused)?;
                 sum = mixed(mixed(sum, lower), upper);
             }
-        }
-        work = work.after(rt, start, u64::from(states))?;
-    }
+            Ok(u64::from(states))
+        },
+    )?;
     Ok((work, sum))
 }
 
 // A checksum of the plan.
-fn plan_sum(rt: &HostRuntime, engine: &mut Engine) -> anyhow::Result<i64> {
-    let mut list = vec![in rt.alloc(); 0u32; 256]?;
-    let _ = engine.plan(&mut list);
-    let mut sum = 0;
-    for choice in list.iter() {
-        sum = mixed(sum, i64::from(*choice));
-    }
-    Ok(sum)
+fn plan_sum(engine: &mut Engine) -> anyhow::Result<i64> {
+    let mut list = [0u32; 256];
+    engine.plan(&mut list).map_err(refused)?;
+    Ok(
+        list.iter()
+            .fold(0, |sum, choice| mixed(sum, i64::from(*choice))),
+    )
 }
 
 // How much was done, and the rate.
@@ -129,12 +151,8 @@ pub(crate) fn measure_loads<S: Source>(
     source: &S,
 ) -> anyhow::Result<Engine> {
     let mut engine = Engine::open(rt.alloc(), source);
-    match engine.standing() {
-        Ok((states, components)) => {
-            println!(rt; "{name} states {states} components {components}")?;
-        }
-        Err(_) => println!(rt; "{name} refused")?,
-    }
+    let (states, components) = engine.standing().map_err(refused)?;
+    println!(rt; "{name} states {states} components {components}")?;
     let loads = time_loads(rt, &mut engine, rounds, source)?;
     print_work(rt, name, "loads", loads)?;
     Ok(engine)
@@ -152,9 +170,9 @@ pub(crate) fn measure<S: Source>(
     print_work(rt, name, "refine steps", steps)?;
     let sweeps = time_sweeps(rt, &mut engine, rounds)?;
     print_work(rt, name, "sweeps", sweeps)?;
-    let (quotes, values) = time_quotes(rt, &engine, source.states(), 1000)?;
+    let (quotes, values) = time_quotes(rt, &mut engine, source.states(), 1000)?;
     print_work(rt, name, "quotes", quotes)?;
-    let plan = plan_sum(rt, &mut engine)?;
+    let plan = plan_sum(&mut engine)?;
     println!(rt; "{name} checksums {bounds} {values} {plan}")?;
     Ok(())
 }

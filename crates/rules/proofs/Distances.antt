@@ -11,7 +11,7 @@ use Rattle.components.proofs.Below.{any_some, any_from, first_le, first_at}
 use Rattle.rules.specs.Layers.{layer}
 use Rattle.rules.specs.Play.{enters, inward, distance, toward}
 use Rattle.rules.specs.Meaning.{InsideWalk, arrived, onward}
-use Rattle.components.proofs.Reversible.{inside-in}
+use Rattle.components.proofs.Reversible.{inside_exists}
 use Rattle.rules.proofs.Nodes.{joined, stays_node}
 use Rattle.rules.proofs.Layers as layers
 
@@ -62,7 +62,7 @@ module _ (T : Table) (L : Lawful T) where
   walk_layer : {t k s : ℕ} → InsideWalk T t k s → layer (goal t) (inward T) k s ≡ true
   unfolding layer
   walk_layer {t = t} arrived = eq-eqb t t refl
-  walk_layer {t = t} (onward {k = k} {s = s} c b i l w) = inward_step t k s c b (inside-in T s c i).choice i l (walk_layer w)
+  walk_layer {t = t} (onward {k = k} {s = s} c b i l w) = inward_step t k s c b (inside_exists T s c i).choice i l (walk_layer w)
 
   pub distance_least : (t k s : ℕ) → InsideWalk T t k s → distance T t s ≤ k
   unfolding distance
@@ -75,10 +75,10 @@ module _ (T : Table) (L : Lawful T) where
     pub branch : (b : ℕ) × (b < T.branches s c) × (suc (distance T t (successor T s c b)) ≡ distance T t s)
 
   -- a branch to a state that is nearer leads one step nearer
-  one-step : (t s c b : ℕ) → t < T.states → s < T.states → node_of T s ≡ node_of T t → c < T.choices s → inside T s c ≡ true
+  one_nearer : (t s c b : ℕ) → t < T.states → s < T.states → node_of T s ≡ node_of T t → c < T.choices s → inside T s c ≡ true
       → b < T.branches s c → distance T t (successor T s c b) < distance T t s → suc (distance T t (successor T s c b)) ≡ distance T t s
   unfolding distance
-  one-step t s c b ht hs e h i l d =
+  one_nearer t s c b ht hs e h i l d =
       let u = successor T s c b in
       let hu = L.successors s c b hs h l in
       let k = near (joined T L u t hu ht (stays_node T L s c b i l ∙ e)) in
@@ -97,7 +97,7 @@ module _ (T : Table) (L : Lawful T) where
       let c = x.0 in
       let w = and_parts (inside T s c) (enters T (λ u. ltb (d u) (d s)) s c) x.2 in
       let y = any_some (T.branches s c) (λ b. ltb (d (successor T s c b)) (d s)) w.1 in
-      let q = one-step t s c y.0 ht hs e x.1 w.0 y.1 (ltb-true (d (successor T s c y.0)) (d s) y.2) in (
+      let q = one_nearer t s c y.0 ht hs e x.1 w.0 y.1 (ltb-true (d (successor T s c y.0)) (d s) y.2) in (
         c,
         x.1,
         and_from (inside T s c) (enters T (λ u. eqb (suc (d u)) (d s)) s c) w.0

@@ -6,7 +6,7 @@ use Rattle.horizon.specs.Sums.{branch_sum_z}
 use Rattle.horizon.specs.Lower.{StayingState, MovingState, LowerHypotheses}
 use Rattle.horizon.specs.Ring.{lin, mono, le_same}
 use Rattle.horizon.specs.Branches.{branch_sum_z_from}
-use Rattle.horizon.proofs.LowerBounds.{lower-theorem}
+use Rattle.horizon.proofs.LowerBounds.{bound_of_lower_values}
 use Rattle.components.specs.Inside.{inside}
 use Rattle.components.specs.Nodes.{node_of, in_component, component_of}
 use Rattle.rules.specs.Setting.{Setting, least_reward, largest_reward}
@@ -76,6 +76,6 @@ module _ (M : Setting) (L : Lawful M.table) (B : Book) (S : Sound M B) where
   sound_lower = record {
     names = plays M L B S;
     earns = λ N s past h.
-        lower-theorem M.table M.scale M.table.states M.cap (least_reward M.table) (largest_reward M.table) p (plan_depth M L B S) y v
+        bound_of_lower_values M.table M.scale M.table.states M.cap (least_reward M.table) (largest_reward M.table) p (plan_depth M L B S) y v
         L (rewards_between M.table) (plays M L B S) hypotheses N s past h;
   }

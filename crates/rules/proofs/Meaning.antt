@@ -84,8 +84,8 @@ module _ (M : Setting) (L : Lawful M.table) (v : ℕ) (B : Book) (l : v < nodes 
   abbrev chosen : Candidate
   chosen = best M L round_down lower_side B.lo B.y v l
 
-  new-y : at_z (update M v B).y v ≡ chosen.value
-  new-y = y_here M v B (let q = S.y in omega arith) ∙ value_is M L round_down lower_side B.lo B.y v l (at_z B.y v)
+  new_y_is : at_z (update M v B).y v ≡ chosen.value
+  new_y_is = y_here M v B (let q = S.y in omega arith) ∙ value_is M L round_down lower_side B.lo B.y v l (at_z B.y v)
 
   new_plan : exit_at (update M v B).plan v ≡ new_exit M v B
   new_plan = plan_here M v B (let q = S.plan in omega arith)
@@ -108,7 +108,7 @@ module _ (M : Setting) (L : Lawful M.table) (v : ℕ) (B : Book) (l : v < nodes 
       best_is M L round_up upper_side B.hi B.x v l,
       x_here M v B (let q = S.x in omega arith) ∙ value_is M L round_up upper_side B.hi B.x v l (at_z B.x v),
     );
-    lower = (chosen, best_is M L round_down lower_side B.lo B.y v l, new-y, rose, stayed);
+    lower = (chosen, best_is M L round_down lower_side B.lo B.y v l, new_y_is, rose, stayed);
     others = λ w n. (x_other M v B w n, y_other M v B w n, plan_other M v B w n);
   }
 

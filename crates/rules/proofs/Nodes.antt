@@ -10,7 +10,7 @@ use Rattle.components.specs.Nodes.{in_component, lowest, is_lowest, heads, nodes
 use Rattle.components.specs.Depth.{depth}
 use Rattle.components.proofs.Below.{first_le, first_at}
 use Rattle.components.proofs.Reach.{within, once}
-use Rattle.components.proofs.Reversible.{inside-in}
+use Rattle.components.proofs.Reversible.{inside_exists}
 use Rattle.components.proofs.Numbering.{acts_of, of_acts, in_same, num_same, node_numbers}
 use Rattle.components.proofs.Components.{own, component_bound, component_law}
 use Rattle.components.proofs.Nodes.{own_node, node_bound, node_reached, node_law}
@@ -28,7 +28,7 @@ module _ (T : Table) (law : Lawful T) where
   -- the successors of an inside choice are of its node
   pub stays_node : (s c b : ℕ) → inside T s c ≡ true → b < T.branches s c → node_of T (successor T s c b) ≡ node_of T s
   stays_node s c b i l =
-      let p = inside-in T s c i in
+      let p = inside_exists T s c i in
       let u = successor T s c b in
       eqb-true (node_of T u) (node_of T s) ((node_reached T law (node_of T s) s p.state (own_node T law s) u (within law p l)).1 (once c b p i l))
 
@@ -41,8 +41,8 @@ module _ (T : Table) (law : Lawful T) where
   joined s t h k q = (node_reached T law (node_of T s) s h (own_node T law s) t k).0 (eq-eqb (node_of T t) (node_of T s) (sym q))
 
   -- a state with an inside choice is in a component, and the other way
-  pub in-component : (s c : ℕ) → inside T s c ≡ true → in_component T s ≡ true
-  in-component s c i = of_acts T s (record { choice = c; of = inside-in T s c i; chosen = i })
+  pub inside_component : (s c : ℕ) → inside T s c ≡ true → in_component T s ≡ true
+  inside_component s c i = of_acts T s (record { choice = c; of = inside_exists T s c i; chosen = i })
 
   pub inside_choice : (s : ℕ) → in_component T s ≡ true → (c : ℕ) × (c < T.choices s) × (inside T s c ≡ true)
   inside_choice s e = let a = acts_of T s e in (a.choice, a.of.choice, a.chosen)
@@ -50,7 +50,7 @@ module _ (T : Table) (law : Lawful T) where
   pub none_inside : (s c : ℕ) → in_component T s ≡ false → inside T s c ≡ false
   none_inside s c e =
       ⊎_elim
-      (λ (i : inside T s c ≡ true). absurd (both_ways (in_component T s) e (in-component s c i)))
+      (λ (i : inside T s c ≡ true). absurd (both_ways (in_component T s) e (inside_component s c i)))
       (λ (i : inside T s c ≡ false). i)
       (cases_Bool (inside T s c))
 
@@ -83,7 +83,7 @@ module _ (T : Table) (law : Lawful T) where
   -- an inside choice keeps the component
   pub stays_in : (k s c b : ℕ) → inside T s c ≡ true → b < T.branches s c → states_of T k s ≡ true → states_of T k (successor T s c b) ≡ true
   stays_in k s c b i l e =
-      let p = inside-in T s c i in
+      let p = inside_exists T s c i in
       let u = successor T s c b in
       let hu = within law p l in
       let q = stays_node s c b i l in
@@ -92,7 +92,7 @@ module _ (T : Table) (law : Lawful T) where
 
   pub stays_out : (k s c b : ℕ) → inside T s c ≡ true → b < T.branches s c → states_of T k (successor T s c b) ≡ true → states_of T k s ≡ true
   stays_out k s c b i l e =
-      let p = inside-in T s c i in
+      let p = inside_exists T s c i in
       let u = successor T s c b in
       let hu = within law p l in
       let q = sym (stays_node s c b i l) in

@@ -34,9 +34,9 @@ module _ (M : Setting) (L : Lawful M.table) (B : Book) (S : Sound M B) where
   abbrev stamps : ℕ → ℕ
   stamps = S.progress.0
 
-  play-by : (s : ℕ) (e : Exit) → exit s ≡ e → play M.table B s ≡ play_by M.table B s e
+  play_by_exit : (s : ℕ) (e : Exit) → exit s ≡ e → play M.table B s ≡ play_by M.table B s e
   unfolding play
-  play-by s e q = ap (play_by M.table B s) q
+  play_by_exit s e q = ap (play_by M.table B s) q
 
   -- the three ways to play
   pub data Way (s : ℕ) : Type 0 where
@@ -67,15 +67,15 @@ module _ (M : Setting) (L : Lawful M.table) (B : Book) (S : Sound M B) where
   way s h = by (exit s) refl
     where
       by : (e : Exit) → exit s ≡ e → Way s
-      by Stay q = staying q (play-by s Stay q) (worth_at s h Stay q s h refl).0
+      by Stay q = staying q (play_by_exit s Stay q) (worth_at s h Stay q s h refl).0
       by (Leave t c) q =
           let w = worth_at s h (Leave t c) q in
           ⊎_elim
           (λ (e : s ≡ t).
-          leaving t c q (rw (play-by s (Leave t c) q ∙ cond-true (eqb s t) c (toward M.table t s) (eq-eqb s t e))
+          leaving t c q (rw (play_by_exit s (Leave t c) q ∙ cond-true (eqb s t) c (toward M.table t s) (eq-eqb s t e))
           (exits s t c e w (leads_at s h (Leave t c) q))))
           (λ (n : s ≡ t → ⊥).
-          nearing t c q (rw (play-by s (Leave t c) q ∙ cond-false (eqb s t) c (toward M.table t s) (ne_eqb s t n))
+          nearing t c q (rw (play_by_exit s (Leave t c) q ∙ cond-false (eqb s t) c (toward M.table t s) (ne_eqb s t n))
           (toward_nearer M.table L t s w.leaving.choice.state h (sym w.leaving.node) n)))
           (cases_eq s t)
 

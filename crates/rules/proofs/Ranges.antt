@@ -8,7 +8,7 @@ use Rattle.horizon.specs.MeansLemmas.{mean_from, mean_to}
 use Rattle.horizon.specs.Rounding.{down_below, down_next}
 use Rattle.components.specs.Inside.{inside}
 use Rattle.components.specs.Nodes.{in_component, components, states_of}
-use Rattle.components.proofs.Reversible.{inside-in}
+use Rattle.components.proofs.Reversible.{inside_exists}
 use Rattle.rules.specs.Setting.{Setting, bottom, top}
 use Rattle.rules.specs.Refine.{worth, best, gain, largest_up, least_down, halfway}
 use Rattle.rules.proofs.Choosing.{largest_reached, smallest_reached}
@@ -24,7 +24,7 @@ module _ (M : Setting) (L : Lawful M.table) (rounds : Rounding) (side : Side rou
     (capped : (u : ℕ) → u < M.table.states → t u ≤ M.cap) (s : ℕ) where
   pub worth_around : (c : ℕ) → inside M.table s c ≡ true → Around M 0 M.cap (worth M rounds t s c)
   worth_around c i =
-      let p = inside-in M.table s c i in
+      let p = inside_exists M.table s c i in
       let a = mean_from rounds side.equal side.larger M.table L s c p.state p.choice (λ u. pos (t u)) (pos 0) (λ b l. omega (arith, lin)) in
       let b = mean_to rounds side.equal side.larger M.table L s c p.state p.choice (λ u. pos (t u)) (pos M.cap)
       (λ b l. let m = capped (successor M.table s c b) (L.successors s c b p.state p.choice l) in omega (arith, lin)) in

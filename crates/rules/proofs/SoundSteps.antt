@@ -15,7 +15,7 @@ use Rattle.rules.specs.Promises.{Tighter}
 use Rattle.rules.specs.declared.exit.Exit.{Exit}
 use Rattle.rules.specs.declared.exit.Exit.TheVariants.{Stay, Leave}
 use Rattle.rules.proofs.Order.{le_self}
-use Rattle.rules.proofs.Nodes.{in-component, of_component, to_component, own_component}
+use Rattle.rules.proofs.Nodes.{inside_component, of_component, to_component, own_component}
 use Rattle.rules.proofs.Certificates.{mix, upper_new, upper_same, lower_new, lower_same}
 use Rattle.rules.proofs.StepFacts.{under_largest, attains_inside, over_least}
 use Rattle.rules.proofs.Steps.{hi_here, hi_other, lo_here, lo_other, hi_falls, lo_rises, in_hi, in_lo, rises, recorded_here, recorded_other, recorded_same, step_fit}
@@ -81,10 +81,10 @@ module _ (M : Setting) (L : Lawful M.table) (k : ℕ) (known : k < components M.
         upper_new M L k t u (at_z B.hi) (at_z (step M k B).hi) S.upper.1 F.vector.capped
             (λ s e m. hi_other M k B (component_of M.table s) (not_k s e m))
             (λ s c i m. rw (hi_at s m ∙ hi_new M t k (at_z B.hi k) f) (under_largest M L t k s c i m))
-            (in-component M.table L),
+            (inside_component M.table L),
       ))
       (λ (f : lt_z (largest_up M t k) (at_z B.hi k) ≡ false).
-      (u, upper_same M (at_z B.hi) (at_z (step M k B).hi) u S.upper.1 (λ s c i. hi_same f s (in-component M.table L s c i))))
+      (u, upper_same M (at_z B.hi) (at_z (step M k B).hi) u S.upper.1 (λ s c i. hi_same f s (inside_component M.table L s c i))))
       (cases_Bool (lt_z (largest_up M t k) (at_z B.hi k)))
 
   lower : (v : ℕ → ℕ) × LowerCertified M (at_z (step M k B).lo) (at (step M k B).recorded) v

@@ -13,7 +13,7 @@ use Rattle.components.specs.Inside.{inside}
 use Rattle.components.specs.Nodes.{nodes, node_of, components, component_of, in_component, lowest_of, component_at}
 use Rattle.components.specs.Depth.{depth}
 use Rattle.components.proofs.Below.{first_le, first_at}
-use Rattle.components.proofs.Reversible.{inside-in}
+use Rattle.components.proofs.Reversible.{inside_exists}
 use Rattle.rules.specs.Setting.{Setting, bottom, top}
 use Rattle.rules.specs.Choosing.{at, at_z}
 use Rattle.rules.specs.Book.{exit_at, start}
@@ -22,7 +22,7 @@ use Rattle.rules.specs.Sound.{UpperCertified, LowerCertified, Supersolution, Wor
 use Rattle.rules.specs.declared.exit.Exit.{Exit}
 use Rattle.rules.specs.declared.exit.Exit.TheVariants.{Stay, Leave}
 use Rattle.rules.proofs.Places.{tabulate_at, tabulate_length}
-use Rattle.rules.proofs.Nodes.{inside_choice, in-component, none_inside, in_together, own_component, some_state, node_number, lowest_state, lowest_node, component_some, component_none, depth_low, depth_falls}
+use Rattle.rules.proofs.Nodes.{inside_choice, inside_component, none_inside, in_together, own_component, some_state, node_number, lowest_state, lowest_node, component_some, component_none, depth_low, depth_falls}
 use Rattle.rules.proofs.Sides.{lower_side, upper_side, over_bottom, under_top, bottom_top}
 
 module _ (M : Setting) (L : Lawful M.table) where
@@ -43,9 +43,9 @@ module _ (M : Setting) (L : Lawful M.table) where
   abbrev firsts : ℕ → ℕ
   firsts s = cond (in_component M.table s) (first (M.table.choices s) (inside M.table s)) 0
 
-  first-inside : (s : ℕ) → in_component M.table s ≡ true
+  first_is_inside : (s : ℕ) → in_component M.table s ≡ true
       → (first (M.table.choices s) (inside M.table s) < M.table.choices s) × (inside M.table s (first (M.table.choices s) (inside M.table s)) ≡ true)
-  first-inside s e =
+  first_is_inside s e =
       let x = inside_choice M.table L s e in
       let l = first_le (M.table.choices s) (inside M.table s) x.0 x.2 in
       let m = x.1 in
@@ -59,11 +59,11 @@ module _ (M : Setting) (L : Lawful M.table) where
   start_recorded s h =
       rw (recorded_at s h)
       (cond_both (in_component M.table s) (first (M.table.choices s) (inside M.table s)) 0 (λ c. c < M.table.choices s)
-      (λ e. (first-inside s e).0) (λ e. (L.choices s h).0))
+      (λ e. (first_is_inside s e).0) (λ e. (L.choices s h).0))
 
   recorded_inside : (s : ℕ) → s < M.table.states → in_component M.table s ≡ true → inside M.table s (at (start M).recorded s) ≡ true
   recorded_inside s h e =
-      rw (recorded_at s h ∙ cond-true (in_component M.table s) (first (M.table.choices s) (inside M.table s)) 0 e) (first-inside s e).1
+      rw (recorded_at s h ∙ cond-true (in_component M.table s) (first (M.table.choices s) (inside M.table s)) 0 e) (first_is_inside s e).1
 
   -- the plan: a component stays, a lone state plays its choice 0
   abbrev exits : Option ℕ → ℕ → Exit
@@ -131,10 +131,10 @@ module _ (M : Setting) (L : Lawful M.table) where
   upper = record {
     capped = λ s h. omega arith;
     bound = λ s c i.
-        let p = inside-in M.table s c i in
+        let p = inside_exists M.table s c i in
         let z = zero_up s c p.state p.choice in
         let r = under_top M s c p.state p.choice in
-        let e = in-component M.table L s c i in
+        let e = inside_component M.table L s c i in
         rw (all (components M.table) (top M) (component_of M.table s) (own_component M.table L s p.state e))
         (bias_under M.table L.denominator.0 s c M.scale (λ u. 0) (M.table.reward s c) (top M +ℤ pos 0) (omega (arith, lin)));
   }

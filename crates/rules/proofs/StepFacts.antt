@@ -11,7 +11,7 @@ use Rattle.components.specs.Below.{every}
 use Rattle.components.specs.Inside.{inside}
 use Rattle.components.specs.Nodes.{in_component, components, states_of}
 use Rattle.components.proofs.Below.{first_le, first_at, every_at}
-use Rattle.components.proofs.Reversible.{inside-in}
+use Rattle.components.proofs.Reversible.{inside_exists}
 use Rattle.rules.specs.Setting.{Setting, bottom, top}
 use Rattle.rules.specs.Choosing.{eq_z}
 use Rattle.rules.specs.Refine.{worth, best, gain, largest_up, least_down, attains, halfway, shifted, held}
@@ -25,7 +25,7 @@ module _ (M : Setting) (L : Lawful M.table) (rounds : Rounding) (t : ℕ → ℕ
   pub best_bound : (c : ℕ) → inside M.table s c ≡ true → worth M rounds t s c ≤ℤ best M rounds t s
   unfolding best
   best_bound c i =
-      largest_bound (M.table.choices s) (inside M.table s) (worth M rounds t s) c (inside-in M.table s c i).choice i
+      largest_bound (M.table.choices s) (inside M.table s) (worth M rounds t s) c (inside_exists M.table s c i).choice i
 
   pub best_reached : in_component M.table s ≡ true
       → (c : ℕ) × (c < M.table.choices s) × (inside M.table s c ≡ true) × (best M rounds t s ≡ worth M rounds t s c)
@@ -66,7 +66,7 @@ module _ (M : Setting) (L : Lawful M.table) (t : ℕ → ℕ) (k : ℕ) where
   unfolding largest_up
   under_largest s c i m =
       let a = best_bound M L round_up t s c i in
-      let b = largest_bound M.table.states (states_of M.table k) (gain M round_up t) s (inside-in M.table s c i).state m in
+      let b = largest_bound M.table.states (states_of M.table k) (gain M round_up t) s (inside_exists M.table s c i).state m in
       omega (arith, lin)
 
   -- the first choice that attains down: it is inside and has the best worth

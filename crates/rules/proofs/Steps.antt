@@ -1,7 +1,7 @@
 -- One refine step: what it makes of each list, and that the book still fits.
 use Rattle.std.proofs.Common.{◌≡◌, ℕ, ◌<◌, Bool, true, false, cond, not, ◌&&◌, ◌⊎◌, length, ℤ, pos, ◌≤ℤ◌, sym, refl, ◌∙◌, inl, inr, ⊎_elim, arith}
 use lib.Signed.{lt_z}
-use Rattle.std.proofs.lemmas.List.{length-set}
+use Rattle.std.proofs.lemmas.List.{get_or-set_same, get_or-set_other, length-set}
 use Rattle.std.proofs.lemmas.Bool.{cases_eq, cases_Bool, cond-true, cond-false, cond_both, and_from, and_left, and_right, not_from_true, not_from_false}
 use Rattle.table.specs.Limits.{Lawful}
 use Rattle.horizon.specs.Ring.{lin}
@@ -11,7 +11,7 @@ use Rattle.rules.specs.Choosing.{at, at_z}
 use Rattle.rules.specs.Book.{Book}
 use Rattle.rules.specs.Refine.{largest_up, least_down, attains, shifted, held, next_vector, next_hi, next_lo, next_recorded, step}
 use Rattle.rules.specs.Fit.{Lengths, VectorFits, RecordedFits, Within, Fit}
-use Rattle.rules.proofs.Places.{tabulate_at, tabulate_length, set_here, set_other}
+use Rattle.rules.proofs.Places.{tabulate_at, tabulate_length}
 use Rattle.rules.proofs.Nodes.{of_component}
 use Rattle.rules.proofs.StepFacts.{attains_names, largest_bottom, least_top, shifted_capped, shifted_rooted}
 
@@ -40,19 +40,19 @@ module _ (M : Setting) (k : ℕ) (B : Book) where
   -- lists by component: the number at k is new, the others stay
   pub hi_here : k < length B.hi → at_z (step M k B).hi k ≡ next_hi M t k (at_z B.hi k)
   unfolding step
-  hi_here l = set_here B.hi k k (next_hi M t k (at_z B.hi k)) (pos 0) refl l
+  hi_here l = get_or-set_same B.hi k (next_hi M t k (at_z B.hi k)) (pos 0) l
 
   pub hi_other : (i : ℕ) → (i ≡ k → ⊥) → at_z (step M k B).hi i ≡ at_z B.hi i
   unfolding step
-  hi_other i n = set_other B.hi i k (next_hi M t k (at_z B.hi k)) (pos 0) n
+  hi_other i n = get_or-set_other B.hi k i (next_hi M t k (at_z B.hi k)) (pos 0) n
 
   pub lo_here : k < length B.lo → at_z (step M k B).lo k ≡ next_lo M t k (at_z B.lo k)
   unfolding step
-  lo_here l = set_here B.lo k k (next_lo M t k (at_z B.lo k)) (pos 0) refl l
+  lo_here l = get_or-set_same B.lo k (next_lo M t k (at_z B.lo k)) (pos 0) l
 
   pub lo_other : (i : ℕ) → (i ≡ k → ⊥) → at_z (step M k B).lo i ≡ at_z B.lo i
   unfolding step
-  lo_other i n = set_other B.lo i k (next_lo M t k (at_z B.lo k)) (pos 0) n
+  lo_other i n = get_or-set_other B.lo k i (next_lo M t k (at_z B.lo k)) (pos 0) n
 
   -- lists by state
   abbrev pub rises : Bool

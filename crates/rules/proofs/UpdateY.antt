@@ -4,9 +4,10 @@ use lib.Signed.{le_z}
 use Rattle.std.proofs.lemmas.Bool.{cases_eq, cases_Bool, cond-true, cond-false, eq-eqb, ne_eqb, cases_lt, both_ways}
 use Rattle.table.specs.Table.{successor}
 use Rattle.table.specs.Limits.{Lawful}
+use Rattle.std.proofs.lemmas.Int.{by_lt_z}
 use Rattle.horizon.specs.Sums.{branch_sum_z}
 use Rattle.horizon.specs.Means.{round_down, mean}
-use Rattle.horizon.specs.Ring.{lin, cases_Z}
+use Rattle.horizon.specs.Ring.{lin}
 use Rattle.horizon.specs.Branches.{branch_sum_z_mono}
 use Rattle.horizon.specs.MeansLemmas.{sum_over, lower_over, mean_to}
 use Rattle.components.specs.Below.{any}
@@ -47,8 +48,8 @@ module _ (M : Setting) (L : Lawful M.table) (v : ℕ) (B : Book) (S : Fit M B) (
   next_node s c b h k m = node_number M.table L (successor M.table s c b) (L.successors s c b h k m)
 
   module _ (l : v < nodes M.table) where
-    new-y : y' v ≡ new_y M v B
-    new-y = y_here M v B (let q = S.lengths.y in omega arith)
+    updated_y : y' v ≡ new_y M v B
+    updated_y = y_here M v B (let q = S.lengths.y in omega arith)
 
     new_plan : plan' v ≡ new_exit M v B
     new_plan = plan_here M v B (let q = S.lengths.plan in omega arith)
@@ -88,14 +89,14 @@ module _ (M : Setting) (L : Lawful M.table) (v : ℕ) (B : Book) (S : Fit M B) (
 
     -- where y does not rise all stays
     same_y : rises M v B ≡ false → y' v ≡ y v
-    same_y f = let a = new-y in let b = new_rises in omega (arith, lin)
+    same_y f = let a = updated_y in let b = new_rises in omega (arith, lin)
 
     same_plan : rises M v B ≡ false → plan' v ≡ exit_at B.plan v
     same_plan f = new_plan ∙ cond-false (rises M v B) (exit_or (best_y M v B) (exit_at B.plan v)) (exit_at B.plan v) f
 
     -- where it rises the plan is the chosen one
     risen_y : y' v ≡ chosen.value
-    risen_y = new-y ∙ chosen_value
+    risen_y = updated_y ∙ chosen_value
 
     risen : rises M v B ≡ true → y v <ℤ chosen.value
     risen f = let e = chosen_value in omega (arith, lin)
@@ -108,7 +109,7 @@ module _ (M : Setting) (L : Lawful M.table) (v : ℕ) (B : Book) (S : Fit M B) (
   pub y_rises : (w : ℕ) → w < nodes M.table → y w ≤ℤ y' w
   y_rises w l =
       ⊎_elim
-      (λ (e : w ≡ v). let k : v < nodes M.table = rw e at l in rw e (rw (new-y k) (new_rises k)))
+      (λ (e : w ≡ v). let k : v < nodes M.table = rw e at l in rw e (rw (updated_y k) (new_rises k)))
       (λ (n : w ≡ v → ⊥). let a = y_other M v B w n in omega (arith, lin))
       (cases_eq w v)
 
@@ -271,10 +272,11 @@ module _ (M : Setting) (L : Lawful M.table) (v : ℕ) (B : Book) (S : Fit M B) (
               let o = progress.older u (next_node t c x.0 w.choice.state w.choice.choice x.1) in (
                 x.0,
                 x.1,
-                ⊎_elim
+                by_lt_z
+                    a.value
+                    (y u)
                     (λ (d : a.value <ℤ y u). inl (omega (arith, lin)))
-                    (λ (d : y u ≤ℤ a.value). inr (omega (arith, lin), omega arith))
-                    (cases_Z a.value (y u)),
+                    (λ (d : y u ≤ℤ a.value). inr (omega (arith, lin), omega arith)),
               )
 
       risen_progress : Progress M y' plan' stamped (suc fresh)

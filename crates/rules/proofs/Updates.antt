@@ -1,7 +1,7 @@
 -- The update of a node: its new numbers lie in range, and its new exit names a choice of the node. One text for both sides.
-use Rattle.std.proofs.Common.{◌≡◌, ℕ, ◌<◌, Bool, cond, List, length, ℤ, pos, ◌≤ℤ◌, Some, Option, sym, refl, ap, ◌∙◌, subst, ⊎_elim, arith}
+use Rattle.std.proofs.Common.{◌≡◌, ℕ, ◌<◌, Bool, cond, List, length, ℤ, pos, ◌≤ℤ◌, Some, Option, sym, ap, ◌∙◌, subst, ⊎_elim, arith}
 use lib.Signed.{lt_z}
-use Rattle.std.proofs.lemmas.List.{length-set}
+use Rattle.std.proofs.lemmas.List.{get_or-set_same, get_or-set_other, length-set}
 use Rattle.std.proofs.lemmas.Bool.{cases_eq, cond_both}
 use Rattle.table.specs.Table.{successor}
 use Rattle.table.specs.Limits.{Lawful}
@@ -16,7 +16,6 @@ use Rattle.rules.specs.Candidates.{CandidateOf, stays, leaves, FirstBest}
 use Rattle.rules.specs.Fit.{Within, ExitFits, PlanFits, Lengths, Fit}
 use Rattle.rules.specs.declared.exit.Exit.{Exit}
 use Rattle.rules.specs.declared.exit.Exit.TheVariants.{Stay}
-use Rattle.rules.proofs.Places.{set_here, set_other}
 use Rattle.rules.proofs.Nodes.{lowest_state, lowest_node, component_is, own_component, node_number}
 use Rattle.rules.proofs.Sides.{Side, lower_side, upper_side}
 use Rattle.rules.proofs.Candidates.{best_first}
@@ -48,7 +47,7 @@ module _ (M : Setting) (L : Lawful M.table) (rounds : Rounding) (side : Side rou
   exit_is e = ap (λ (o : Option Candidate). exit_or o e) (best_first M L rounds bounds values v l).1
 
   -- a number in range
-  module _ (in_bounds : Within M (components M.table) (at_z bounds)) (in-values : Within M (nodes M.table) (at_z values)) where
+  module _ (in_bounds : Within M (components M.table) (at_z bounds)) (values_in_bounds : Within M (nodes M.table) (at_z values)) where
     candidate_within : (a : Candidate) → CandidateOf M rounds bounds values v a → (bottom M ≤ℤ a.value) × (a.value ≤ℤ top M)
     candidate_within a x =
         elim x [
@@ -61,9 +60,9 @@ module _ (M : Setting) (L : Lawful M.table) (rounds : Rounding) (side : Side rou
               λ b m. node_number M.table L (successor M.table s c b) (L.successors s c b h k m) in
               rw (ap (λ (z : Candidate). z.value) q) (
                 mean_from rounds side.equal side.larger M.table L s c h k f (bottom M)
-                    (λ b m. (in-values (node_of M.table (successor M.table s c b)) (n b m)).0),
+                    (λ b m. (values_in_bounds (node_of M.table (successor M.table s c b)) (n b m)).0),
                 mean_to rounds side.equal side.larger M.table L s c h k f (top M)
-                    (λ b m. (in-values (node_of M.table (successor M.table s c b)) (n b m)).1),
+                    (λ b m. (values_in_bounds (node_of M.table (successor M.table s c b)) (n b m)).1),
               ))
         ]
 
@@ -78,8 +77,8 @@ module _ (M : Setting) (L : Lawful M.table) (rounds : Rounding) (side : Side rou
         | leaves s c w q ↦ subst (λ (z : Candidate). ExitFits M v z.exit) (sym q) (w.choice.state, w.node, w.choice.choice)
       ]
 
-  pub exit-fits : (e : Exit) → ExitFits M v (exit_or (best_of M rounds bounds values v) e)
-  exit-fits e = rw (exit_is e) (candidate_exit best best_is.candidate)
+  pub best_exit_fits : (e : Exit) → ExitFits M v (exit_or (best_of M rounds bounds values v) e)
+  best_exit_fits e = rw (exit_is e) (candidate_exit best best_is.candidate)
 
 -- What an update makes of the three lists by node
 module _ (M : Setting) (v : ℕ) (B : Book) where
@@ -97,27 +96,27 @@ module _ (M : Setting) (v : ℕ) (B : Book) where
 
   pub x_here : v < length B.x → at_z (update M v B).x v ≡ new_x
   unfolding update
-  x_here l = set_here B.x v v new_x (pos 0) refl l
+  x_here l = get_or-set_same B.x v new_x (pos 0) l
 
   pub x_other : (w : ℕ) → (w ≡ v → ⊥) → at_z (update M v B).x w ≡ at_z B.x w
   unfolding update
-  x_other w n = set_other B.x w v new_x (pos 0) n
+  x_other w n = get_or-set_other B.x v w new_x (pos 0) n
 
   pub y_here : v < length B.y → at_z (update M v B).y v ≡ new_y
   unfolding update
-  y_here l = set_here B.y v v new_y (pos 0) refl l
+  y_here l = get_or-set_same B.y v new_y (pos 0) l
 
   pub y_other : (w : ℕ) → (w ≡ v → ⊥) → at_z (update M v B).y w ≡ at_z B.y w
   unfolding update
-  y_other w n = set_other B.y w v new_y (pos 0) n
+  y_other w n = get_or-set_other B.y v w new_y (pos 0) n
 
   pub plan_here : v < length B.plan → exit_at (update M v B).plan v ≡ new_exit
   unfolding update
-  plan_here l = set_here B.plan v v new_exit Stay refl l
+  plan_here l = get_or-set_same B.plan v new_exit Stay l
 
   pub plan_other : (w : ℕ) → (w ≡ v → ⊥) → exit_at (update M v B).plan w ≡ exit_at B.plan w
   unfolding update
-  plan_other w n = set_other B.plan w v new_exit Stay n
+  plan_other w n = get_or-set_other B.plan v w new_exit Stay n
 
 module _ (M : Setting) (L : Lawful M.table) (v : ℕ) (B : Book) (S : Fit M B) where
   pub update_lengths : Lengths M (update M v B)
@@ -159,7 +158,7 @@ module _ (M : Setting) (L : Lawful M.table) (v : ℕ) (B : Book) (S : Fit M B) w
       let k : v < nodes M.table = rw e at l in
       rw e (rw (plan_here M v B (let q = S.lengths.plan in omega arith))
       (cond_both (rises M v B) (exit_or (best_y M v B) (exit_at B.plan v)) (exit_at B.plan v) (ExitFits M v)
-      (λ _. exit-fits M L round_down lower_side B.lo B.y v k (exit_at B.plan v)) (λ _. S.plan v k))))
+      (λ _. best_exit_fits M L round_down lower_side B.lo B.y v k (exit_at B.plan v)) (λ _. S.plan v k))))
       (λ (n : w ≡ v → ⊥). rw (plan_other M v B w n) (S.plan w l))
       (cases_eq w v)
 

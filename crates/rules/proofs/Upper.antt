@@ -4,7 +4,7 @@ use Rattle.std.proofs.lemmas.Bool.{cases_Bool}
 use Rattle.table.specs.Limits.{Lawful}
 use Rattle.horizon.specs.Upper.{InsideChoice, UpperHypotheses}
 use Rattle.horizon.specs.Ring.{lin, mono}
-use Rattle.horizon.proofs.UpperBounds.{upper-theorem}
+use Rattle.horizon.proofs.UpperBounds.{bound_of_upper_values}
 use Rattle.components.specs.Inside.{inside}
 use Rattle.components.specs.Nodes.{node_of, component_of}
 use Rattle.components.specs.Depth.{depth}
@@ -13,7 +13,7 @@ use Rattle.rules.specs.Choosing.{at_z}
 use Rattle.rules.specs.Book.{Book}
 use Rattle.rules.specs.Sound.{Sound}
 use Rattle.rules.specs.Promises.{UpperHolds}
-use Rattle.rules.proofs.Nodes.{stays_node, in-component, node_number, depth_low, depth_falls}
+use Rattle.rules.proofs.Nodes.{stays_node, inside_component, node_number, depth_low, depth_falls}
 use Rattle.rules.proofs.Sides.{rewards_between}
 
 module _ (M : Setting) (L : Lawful M.table) (B : Book) (S : Sound M B) where
@@ -26,7 +26,7 @@ module _ (M : Setting) (L : Lawful M.table) (B : Book) (S : Sound M B) where
     stays = λ b k. stays_node M.table L s c b i k;
     bias =
         let a = S.upper.1.bound s c i in
-        let b = S.over.stay s h (in-component M.table L s c i) in
+        let b = S.over.stay s h (inside_component M.table L s c i) in
         let m = mono M.table.denominator (at_z B.hi (component_of M.table s) +ℤ pos (u s)) (at_z B.x (node_of M.table s) +ℤ pos (u s)) (omega (arith, lin)) in
         omega (arith, lin);
   }
@@ -45,5 +45,5 @@ module _ (M : Setting) (L : Lawful M.table) (B : Book) (S : Sound M B) where
 
   pub sound_upper : UpperHolds M B
   sound_upper σ names N s past h =
-      upper-theorem M.table M.scale M.table.states M.cap (least_reward M.table) (largest_reward M.table)
+      bound_of_upper_values M.table M.scale M.table.states M.cap (least_reward M.table) (largest_reward M.table)
       (node_of M.table) (depth M.table) (at_z B.x) u L (rewards_between M.table) hypotheses σ names N s past h

@@ -1,4 +1,5 @@
 // How a plan goes on from a node: it stays in the component, or it leaves by a choice of a state.
+// Not an Option, since its two names are the words of the rules: None would not say that the plan stays.
 #[derive(Clone, Copy, PartialEq, Eq, Debug)]
 pub enum Exit {
     Stay,

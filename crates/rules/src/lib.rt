@@ -1,5 +1,6 @@
 // The rules of refine, sweep and plan as definitions, and what every book that they lead to keeps.
 // Four functions below stand for one theorem each: the contract is the theorem, and the answer is the theorem's number.
+// It answers a number since, by a rule of this project, each public function can be turned wrong by an edit that is refused.
 #![tactic(auto)]
 
 mod exit;
@@ -46,18 +47,24 @@ pub fn rule_meanings() -> u8
     4u8
 }
 
-// F: a bound is a whole multiple of 1 / F.
+// F: a bound is a whole multiple of 1 / F. A constant carries no contract: `scale` says that this is the F of the rules.
+pub const SCALE: i64 = 1_048_576;
+
+// H: no number of a vector is above it; `cap` says so.
+pub const CAP: i64 = 70_368_744_177_664;
+
+// F, as the rules have it.
 pub fn scale() -> u64
     ensures value { result ≡ scale_in_use }
 {
-    1_048_576
+    SCALE as u64
 }
 
-// H: no number of a vector is above it.
+// H, as the rules have it.
 pub fn cap() -> u64
     ensures value { result ≡ cap_in_use }
 {
-    70_368_744_177_664
+    CAP as u64
 }
 
 // How many worked models there are. Their results follow from the rules by computation.

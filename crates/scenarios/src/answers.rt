@@ -1,44 +1,45 @@
 use engine::{Answer, Engine};
 use history::Refusal;
+use std::fmt;
+use table::Notice;
 
-// The line of an answer: its letter and its numbers.
-pub(crate) fn print_answer(rt: &HostRuntime, answer: &Answer) -> anyhow::Result<()> {
-    match answer {
-        Answer::Refused(refusal) => print_refusal(rt, *refusal)?,
-        Answer::Done => println!(rt; "D")?,
-        Answer::Stands { states, components } => println!(rt; "L {states} {components}")?,
-        Answer::Refined { made, lo, hi } => println!(rt; "R {made} {lo} {hi}")?,
-        Answer::Swept { made } => println!(rt; "S {made}")?,
-        Answer::Quoted { lower, upper, mark } => println!(rt; "Q {lower} {upper} {mark}")?,
-        Answer::Planned { list } => print_plan(rt, list)?,
+// What a call answered, as a line: a letter and the answer's numbers; E and the number of a refusal, then its place in
+// the table, 0 where it has none.
+#[derive(Drop)]
+pub(crate) struct Line<'a>(pub(crate) &'a Result<Answer, Refusal>);
+
+impl fmt::Display for Line<'_> {
+    fn fmt<W: fmt::Write>(&self, f: &mut fmt::Formatter<W>) -> fmt::Result {
+        match self.0 {
+            Ok(Answer::Done) => write!(f, "D"),
+            Ok(Answer::Stands { states, components }) => write!(f, "L {states} {components}"),
+            Ok(Answer::Refined { made, lo, hi }) => write!(f, "R {made} {lo} {hi}"),
+            Ok(Answer::Swept { made }) => write!(f, "S {made}"),
+            Ok(Answer::Quoted { lower, upper, mark }) => {
+                write!(f, "Q {lower} {upper} {}", u8::from(*mark))
+            }
+            Ok(Answer::Planned { list }) => {
+                write!(f, "P")?;
+                for choice in list {
+                    write!(f, " {choice}")?;
+                }
+                Ok(())
+            }
+            Err(refusal) => {
+                let Notice {
+                    number,
+                    state,
+                    choice,
+                    branch,
+                } = refusal.notice();
+                write!(f, "E {number} {state} {choice} {branch}")
+            }
+        }
     }
-    Ok(())
-}
-
-// A refusal with its places in the table, 0 where it has none.
-fn print_refusal(rt: &HostRuntime, refusal: Refusal) -> anyhow::Result<()> {
-    let notice = refusal.notice();
-    let number = notice.number;
-    let state = notice.state;
-    let choice = notice.choice;
-    let branch = notice.branch;
-    println!(rt; "E {number} {state} {choice} {branch}")?;
-    Ok(())
-}
-
-fn print_plan(rt: &HostRuntime, list: &Vec<u32>) -> anyhow::Result<()> {
-    print!(rt; "P")?;
-    for choice in list.iter() {
-        print!(rt; " {choice}")?;
-    }
-    println!(rt; "")?;
-    Ok(())
 }
 
 // How an engine stands.
-pub(crate) fn stands(engine: &Engine) -> Answer {
-    match engine.standing() {
-        Ok((states, components)) => Answer::Stands { states, components },
-        Err(refusal) => Answer::Refused(refusal),
-    }
+pub(crate) fn stands(engine: &Engine) -> Result<Answer, Refusal> {
+    let stands = engine.standing();
+    stands.map(|(states, components)| Answer::Stands { states, components })
 }

@@ -1,49 +1,40 @@
 use anyhow::anyhow;
-use std::alloc::{AllocError, Global};
 
-// The bytes of a case file, read from the front on.
+// The bytes of a case file that are still to be read.
 #[derive(Drop)]
-pub(crate) struct CaseFile {
-    bytes: Vec<u8>,
-    // how many were read
-    at: usize,
-}
+pub(crate) struct CaseFile<'a>(pub(crate) &'a [u8]);
 
-impl CaseFile {
-    pub(crate) fn new(bytes: Vec<u8>) -> CaseFile {
-        CaseFile { bytes, at: 0 }
+impl<'a> CaseFile<'a> {
+    // As many bytes as are wanted.
+    fn bytes<const N: usize>(&mut self) -> anyhow::Result<[u8; N]> {
+        let Some((bytes, rest)) = self.0.split_first_chunk() else {
+            return Err(anyhow!("the case file ends too early"));
+        };
+        self.0 = rest;
+        Ok(*bytes)
     }
 
     pub(crate) fn byte(&mut self) -> anyhow::Result<u8> {
-        let Some(byte) = self.bytes.get(self.at).copied() else {
-            return Err(anyhow!("the case file ends too early"));
-        };
-        self.at = self.at.saturating_add(1);
-        Ok(byte)
+        Ok(u8::from_le_bytes(self.bytes()?))
     }
 
     // A number of four bytes, the lowest first.
     pub(crate) fn word(&mut self) -> anyhow::Result<u32> {
-        let a = self.byte()?;
-        let b = self.byte()?;
-        let c = self.byte()?;
-        let d = self.byte()?;
-        Ok(u32::from_le_bytes([a, b, c, d]))
+        Ok(u32::from_le_bytes(self.bytes()?))
     }
 
     // A number of eight bytes, the lowest first.
     pub(crate) fn long(&mut self) -> anyhow::Result<u64> {
-        let low = u64::from(self.word()?);
-        let high = u64::from(self.word()?);
-        Ok(high << 32 | low)
+        Ok(u64::from_le_bytes(self.bytes()?))
     }
 
     // A text: its length in four bytes, then its bytes.
-    pub(crate) fn text(&mut self, heap: Global) -> anyhow::Result<Vec<u8>> {
-        let mut text = Vec::new(heap);
-        for _ in 0..self.word()? {
-            text.push(self.byte()?)?;
-        }
+    pub(crate) fn text(&mut self) -> anyhow::Result<&'a [u8]> {
+        let length = self.word()? as usize;
+        let Some((text, rest)) = self.0.split_at_checked(length) else {
+            return Err(anyhow!("the case file ends too early"));
+        };
+        self.0 = rest;
         Ok(text)
     }
 }

@@ -6,7 +6,7 @@ mod answers;
 mod case_file;
 mod tables;
 
-use answers::{print_answer, stands};
+use answers::{Line, stands};
 use anyhow::anyhow;
 use case_file::CaseFile;
 use engine::replay;
@@ -19,12 +19,11 @@ fn main(rt: HostRuntime) -> anyhow::Result<()> {
 }
 
 fn run(rt: &HostRuntime) -> anyhow::Result<()> {
-    let mut file = CaseFile::new(fs::read(rt, "cases.bin")?);
-    let count = file.word()?;
-    for before in 0..count {
-        let number = before.saturating_add(1);
+    let bytes = fs::read(rt, "cases.bin")?;
+    let mut file = CaseFile(&bytes);
+    for number in 1..=file.word()? {
         let kind = file.byte()?;
-        let group = String::from_utf8(file.text(rt.alloc())?)?;
+        let group = str::from_utf8(file.text()?)?;
         println!(rt; "case {number} {group}")?;
         match kind {
             b'Q' => print_run(rt, &mut file)?,
@@ -36,23 +35,23 @@ fn run(rt: &HostRuntime) -> anyhow::Result<()> {
 }
 
 // A run of the quote program: its model file and its input.
-fn print_run(rt: &HostRuntime, file: &mut CaseFile) -> anyhow::Result<()> {
-    let heap = rt.alloc();
-    let model = file.text(heap)?;
-    let input = file.text(heap)?;
-    let text = transcript(heap, &model, &input)?;
+fn print_run<'a>(rt: &HostRuntime, file: &mut CaseFile<'a>) -> anyhow::Result<()> {
+    let model = file.text()?;
+    let input = file.text()?;
+    let text = transcript(rt.alloc(), model, input)?;
     print!(rt; "{text}")?;
     Ok(())
 }
 
 // A history: the table of an open, and calls.
-fn print_history(rt: &HostRuntime, file: &mut CaseFile) -> anyhow::Result<()> {
+fn print_history<'a>(rt: &HostRuntime, file: &mut CaseFile<'a>) -> anyhow::Result<()> {
     let heap = rt.alloc();
     let table = read_table(heap, file)?;
     let calls = read_calls(heap, file)?;
     let (engine, answers) = replay(heap, &table, &calls)?;
-    for answer in answers.iter() {
-        print_answer(rt, answer)?;
+    for answer in &answers {
+        println!(rt; "{}", Line(answer))?;
     }
-    print_answer(rt, &stands(&engine))
+    println!(rt; "{}", Line(&stands(&engine)))?;
+    Ok(())
 }

@@ -4,68 +4,60 @@ use engine::Call;
 use sources::{ChoiceRow, OwnedList, StateRow};
 use std::alloc::Global;
 
+// A list: how many items, then each.
+fn read_list<'a, T: Drop, F: FnMut(&mut CaseFile<'a>) -> anyhow::Result<T>>(
+    heap: Global,
+    file: &mut CaseFile<'a>,
+    mut read: F,
+) -> anyhow::Result<Vec<T>>
+    requires { F.IsAlwaysCallable read }
+{
+    let mut items = Vec::new(heap);
+    for _ in 0..file.word()? {
+        items.push(read(file)?)?;
+    }
+    Ok(items)
+}
+
 // A table: its denominator, then each of the three lists.
-pub(crate) fn read_table(heap: Global, file: &mut CaseFile) -> anyhow::Result<OwnedList> {
-    let denominator = file.word()?;
-    let states = read_states(heap, file)?;
-    let choices = read_choices(heap, file)?;
-    let branches = read_branches(heap, file)?;
+pub(crate) fn read_table<'a>(heap: Global, file: &mut CaseFile<'a>) -> anyhow::Result<OwnedList> {
     Ok(OwnedList {
-        denominator,
-        states,
-        choices,
-        branches,
+        denominator: file.word()?,
+        states: read_list(heap, file, read_state)?,
+        choices: read_list(heap, file, read_choice)?,
+        branches: read_list(heap, file, read_branch)?,
     })
 }
 
-fn read_states(heap: Global, file: &mut CaseFile) -> anyhow::Result<Vec<StateRow>> {
-    let mut rows = Vec::new(heap);
-    for _ in 0..file.word()? {
-        let first = file.word()?;
-        let count = file.word()?;
-        rows.push(StateRow { first, count })?;
-    }
-    Ok(rows)
+fn read_state<'a>(file: &mut CaseFile<'a>) -> anyhow::Result<StateRow> {
+    Ok(StateRow {
+        first: file.word()?,
+        count: file.word()?,
+    })
 }
 
-fn read_choices(heap: Global, file: &mut CaseFile) -> anyhow::Result<Vec<ChoiceRow>> {
-    let mut rows = Vec::new(heap);
-    for _ in 0..file.word()? {
-        let reward = file.word()?.cast_signed();
-        let first = file.word()?;
-        let count = file.word()?;
-        rows.push(ChoiceRow {
-            reward,
-            first,
-            count,
-        })?;
-    }
-    Ok(rows)
+fn read_choice<'a>(file: &mut CaseFile<'a>) -> anyhow::Result<ChoiceRow> {
+    Ok(ChoiceRow {
+        reward: file.word()?.cast_signed(),
+        first: file.word()?,
+        count: file.word()?,
+    })
 }
 
-fn read_branches(heap: Global, file: &mut CaseFile) -> anyhow::Result<Vec<(u32, u32)>> {
-    let mut rows = Vec::new(heap);
-    for _ in 0..file.word()? {
-        let successor = file.word()?;
-        let weight = file.word()?;
-        rows.push((successor, weight))?;
-    }
-    Ok(rows)
+// A successor and its weight.
+fn read_branch<'a>(file: &mut CaseFile<'a>) -> anyhow::Result<(u32, u32)> {
+    Ok((file.word()?, file.word()?))
 }
 
 // Calls: how many, then each as its letter and its arguments.
-pub(crate) fn read_calls(
+pub(crate) fn read_calls<'a>(
     heap: Global,
-    file: &mut CaseFile,
+    file: &mut CaseFile<'a>,
 ) -> anyhow::Result<Vec<Call<OwnedList>>> {
-    let mut calls = Vec::new(heap);
-    for _ in 0..file.word()? {
-        calls.push(read_call(heap, file)?)?;
-    }
-    Ok(calls)
+    read_list(heap, file, |file| read_call(heap, file))
 }
 
-fn read_call(heap: Global, file: &mut CaseFile) -> anyhow::Result<Call<OwnedList>> {
+fn read_call<'a>(heap: Global, file: &mut CaseFile<'a>) -> anyhow::Result<Call<OwnedList>> {
     match file.byte()? {
         b'L' => Ok(Call::Load(read_table(heap, file)?)),
         b'T' => Ok(Call::Standing),

@@ -4,35 +4,45 @@ use table::Source;
 
 #[test]
 fn limits(rt: HostRuntime) {
-    assert_eq!(rt; found(&Band::new(1, 0, 0)), at(0, 0, 0, 0));
-    assert_eq!(rt; found(&Band::new(127, 7_000, 1_000_000)), at(0, 0, 0, 0));
+    let cases = [
+        (Band::new(1, 0, 0), at(0, 0, 0, 0)),
+        (Band::new(127, 7_000, 1_000_000), at(0, 0, 0, 0)),
+        (Band::new(0, 0, 0), at(11, 0, 0, 0)),
+        (Band::new(128, 0, 0), at(11, 0, 0, 0)),
+        (Band::new(1, 7_001, 0), at(11, 0, 0, 0)),
+        (Band::new(1, 0, 1_000_001), at(11, 0, 0, 0)),
+    ];
+    for (band, expected) in cases {
+        assert_eq!(rt; found(&band), expected);
+    }
     assert_eq!(rt;
         found(&Opposite(Band::new(127, 7_000, 1_000_000))),
         at(0, 0, 0, 0)
     );
-    assert_eq!(rt; found(&Band::new(0, 0, 0)), at(11, 0, 0, 0));
-    assert_eq!(rt; found(&Band::new(128, 0, 0)), at(11, 0, 0, 0));
-    assert_eq!(rt; found(&Band::new(1, 7_001, 0)), at(11, 0, 0, 0));
-    assert_eq!(rt; found(&Band::new(1, 0, 1_000_001)), at(11, 0, 0, 0));
 }
 
 #[test]
 fn holding(rt: HostRuntime) {
     let band = Band::new(127, 7_000, 1_000_000);
     assert_eq!(rt; band.states(), 255);
-    assert_eq!(rt; band.reward(0, 0), -889_000);
-    assert_eq!(rt; band.reward(127, 0), 0);
-    assert_eq!(rt; band.reward(254, 0), -889_000);
-    assert_eq!(rt; band.branches(0, 0), 2);
-    assert_eq!(rt; band.branch(0, 0, 0), (0, 3));
-    assert_eq!(rt; band.branch(0, 0, 1), (1, 1));
-    assert_eq!(rt; band.branches(9, 0), 3);
-    assert_eq!(rt; band.branch(9, 0, 0), (8, 1));
-    assert_eq!(rt; band.branch(9, 0, 1), (9, 2));
-    assert_eq!(rt; band.branch(9, 0, 2), (10, 1));
-    assert_eq!(rt; band.branches(254, 0), 2);
-    assert_eq!(rt; band.branch(254, 0, 0), (253, 1));
-    assert_eq!(rt; band.branch(254, 0, 1), (254, 3));
+    for (state, reward) in [(0, -889_000), (127, 0), (254, -889_000)] {
+        assert_eq!(rt; band.reward(state, 0), reward);
+    }
+    for (state, count) in [(0, 2), (9, 3), (254, 2)] {
+        assert_eq!(rt; band.branches(state, 0), count);
+    }
+    let moves = [
+        (0, 0, (0, 3)),
+        (0, 1, (1, 1)),
+        (9, 0, (8, 1)),
+        (9, 1, (9, 2)),
+        (9, 2, (10, 1)),
+        (254, 0, (253, 1)),
+        (254, 1, (254, 3)),
+    ];
+    for (state, branch, expected) in moves {
+        assert_eq!(rt; band.branch(state, 0, branch), expected);
+    }
 }
 
 #[test]

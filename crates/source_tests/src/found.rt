@@ -4,7 +4,7 @@ use table::{Notice, Source, check};
 // What a check reports; all 0 where it reports nothing.
 pub(crate) fn found<S: Source>(source: &S) -> Notice {
     match check(source) {
-        Ok(()) => at(0, 0, 0, 0),
+        Ok(()) => Notice::default(),
         Err(fault) => fault.notice(),
     }
 }

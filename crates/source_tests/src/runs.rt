@@ -7,22 +7,15 @@ use table::Source;
 fn of_choices(rt: HostRuntime) {
     let choices = [choice(1, 0, 1), choice(2, 0, 1), choice(3, 0, 1)];
     let branches = [(0, 4)];
-    assert_eq!(rt;
-        in_list(4, &[state(1, 2)], &choices, &branches),
-        at(0, 0, 0, 0)
-    );
-    assert_eq!(rt;
-        in_list(4, &[state(2, 2)], &choices, &branches),
-        at(13, 0, 0, 0)
-    );
-    assert_eq!(rt;
-        in_list(4, &[state(4_294_967_295, 1)], &choices, &branches),
-        at(13, 0, 0, 0)
-    );
-    assert_eq!(rt;
-        in_list(4, &[state(4_294_967_295, 4)], &choices, &branches),
-        at(13, 0, 0, 0)
-    );
+    let cases = [
+        (state(1, 2), at(0, 0, 0, 0)),
+        (state(2, 2), at(13, 0, 0, 0)),
+        (state(4_294_967_295, 1), at(13, 0, 0, 0)),
+        (state(4_294_967_295, 4), at(13, 0, 0, 0)),
+    ];
+    for (row, expected) in cases {
+        assert_eq!(rt; in_list(4, &[row], &choices, &branches), expected);
+    }
     let states = [state(1, 2)];
     let list = List::new(4, &states, &choices, &branches);
     assert_eq!(rt; list.reward(0, 0), 2);
@@ -35,18 +28,14 @@ fn of_choices(rt: HostRuntime) {
 fn of_branches(rt: HostRuntime) {
     let states = [state(0, 1), state(0, 1)];
     let branches = [(9, 9), (0, 1), (1, 3)];
-    assert_eq!(rt;
-        in_list(4, &states, &[choice(0, 1, 2)], &branches),
-        at(0, 0, 0, 0)
-    );
-    assert_eq!(rt;
-        in_list(4, &states, &[choice(0, 2, 2)], &branches),
-        at(15, 0, 0, 0)
-    );
-    assert_eq!(rt;
-        in_list(4, &states, &[choice(0, 4_294_967_295, 3)], &branches),
-        at(15, 0, 0, 0)
-    );
+    let cases = [
+        (choice(0, 1, 2), at(0, 0, 0, 0)),
+        (choice(0, 2, 2), at(15, 0, 0, 0)),
+        (choice(0, 4_294_967_295, 3), at(15, 0, 0, 0)),
+    ];
+    for (row, expected) in cases {
+        assert_eq!(rt; in_list(4, &states, &[row], &branches), expected);
+    }
     let choices = [choice(0, 1, 2)];
     let list = List::new(4, &states, &choices, &branches);
     assert_eq!(rt; list.branch(0, 0, 1), (1, 3));

@@ -1,17 +1,17 @@
-ghost use Rattle.std.specs.Prelude.{◌≡◌, length};
+ghost use Rattle.std.specs.Prelude.{◌≡◌, ℕ, ◌+◌, ◌<◌, length, slice_index_or};
 ghost use Rattle.sources.specs.Rows.{run, state_at, choice_at, list_table};
 
 use table::Source;
 
 // A state of a list: where its choices begin in the list of choices, and how many there are.
-#[derive(Clone, Copy, PartialEq, Eq, Debug)]
+#[derive(Clone, Copy, PartialEq, Eq, Default, Debug)]
 pub struct StateRow {
     pub first: u32,
     pub count: u32,
 }
 
 // A choice of a list: its reward, where its branches begin in the list of branches, and how many there are.
-#[derive(Clone, Copy, PartialEq, Eq, Debug)]
+#[derive(Clone, Copy, PartialEq, Eq, Default, Debug)]
 pub struct ChoiceRow {
     pub reward: i32,
     pub first: u32,
@@ -26,14 +26,6 @@ pub struct List<'a> {
     choices: &'a [ChoiceRow],
     branches: &'a [(u32, u32)],
 }
-
-const NO_STATE: StateRow = StateRow { first: 0, count: 0 };
-
-const NO_CHOICE: ChoiceRow = ChoiceRow {
-    reward: 0,
-    first: 0,
-    count: 0,
-};
 
 const MOST_ROWS: usize = 257;
 
@@ -56,41 +48,33 @@ impl<'a> List<'a> {
             branches,
         }
     }
-}
 
-// The places of a run within a list of `size` elements: none where the run passes the end.
-fn places(first: u32, count: u32, size: usize) -> u32
-    ensures { result ≡ run first count size }
-{
-    if first as usize + count as usize <= size {
-        count
-    } else {
-        0
+    // The row of a state, or an empty one.
+    fn state_row(&self, state: u32) -> StateRow
+        ensures { let l = self.now in result ≡ state_at l.states.now l.choices.now l.branches.now state }
+    {
+        let rows = &self.states[..self.states.len().min(MOST_ROWS)];
+        rows.get(state as usize).copied().unwrap_or_default()
+    }
+
+    // The row of a choice of a state, or an empty one.
+    fn choice_row(&self, state: u32, choice: u32) -> ChoiceRow
+        ensures { let l = self.now in result ≡ choice_at l.states.now l.choices.now l.branches.now state choice }
+    {
+        let StateRow { first, count } = self.state_row(state);
+        let rows = part(self.choices, first, count);
+        rows.get(choice as usize).copied().unwrap_or_default()
     }
 }
 
-// The row of a state, or an empty one.
-fn state_row(list: &List, state: u32) -> StateRow
-    ensures { result ≡ state_at list.now.states.now list.now.choices.now list.now.branches.now state }
+// The run of `count` elements from `first` on: none where it passes the end of the list.
+fn part<T>(list: &[T], first: u32, count: u32) -> &[T]
+    ensures long { length result.now ≡ run first count (length list.now) }
+    ensures elements { (i : ℕ) (d : T) → i < length result.now
+        → slice_index_or result.now i d ≡ slice_index_or list.now (first + i) d }
 {
-    let s = state as usize;
-    if s < list.states.len() && s < MOST_ROWS {
-        list.states[s]
-    } else {
-        NO_STATE
-    }
-}
-
-// The row of a choice of a state, or an empty one.
-fn choice_row(list: &List, state: u32, choice: u32) -> ChoiceRow
-    ensures { result ≡ choice_at list.now.states.now list.now.choices.now list.now.branches.now state choice }
-{
-    let row = state_row(list, state);
-    if choice < places(row.first, row.count, list.choices.len()) {
-        list.choices[row.first as usize + choice as usize]
-    } else {
-        NO_CHOICE
-    }
+    let first = first as usize;
+    list.get(first..first + count as usize).unwrap_or(&[])
 }
 
 impl<'a> Source for List<'a> {
@@ -105,25 +89,22 @@ impl<'a> Source for List<'a> {
     }
 
     fn choices(&self, state: u32) -> u32 {
-        let row = state_row(self, state);
-        places(row.first, row.count, self.choices.len())
+        let StateRow { first, count } = self.state_row(state);
+        part(self.choices, first, count).len() as u32
     }
 
     fn reward(&self, state: u32, choice: u32) -> i32 {
-        choice_row(self, state, choice).reward
+        self.choice_row(state, choice).reward
     }
 
     fn branches(&self, state: u32, choice: u32) -> u32 {
-        let row = choice_row(self, state, choice);
-        places(row.first, row.count, self.branches.len())
+        let ChoiceRow { first, count, .. } = self.choice_row(state, choice);
+        part(self.branches, first, count).len() as u32
     }
 
     fn branch(&self, state: u32, choice: u32, branch: u32) -> (u32, u32) {
-        let row = choice_row(self, state, choice);
-        if branch < places(row.first, row.count, self.branches.len()) {
-            self.branches[row.first as usize + branch as usize]
-        } else {
-            (0, 0)
-        }
+        let ChoiceRow { first, count, .. } = self.choice_row(state, choice);
+        let branches = part(self.branches, first, count);
+        branches.get(branch as usize).copied().unwrap_or_default()
     }
 }

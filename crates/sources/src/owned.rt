@@ -13,40 +13,48 @@ pub struct OwnedList {
     pub branches: Vec<(u32, u32)>,
 }
 
-// The source over the lists that it owns.
-fn lent(own: &OwnedList) -> List<'_>
-    ensures denominator { result.denominator ≡ own.now.denominator }
-    ensures states { result.states.now ≡ own.now.states.items }
-    ensures choices { result.choices.now ≡ own.now.choices.items }
-    ensures branches { result.branches.now ≡ own.now.branches.items }
-{
-    List::new(own.denominator, &own.states, &own.choices, &own.branches)
+impl OwnedList {
+    // The source over the lists that it owns.
+    pub fn list(&self) -> List<'_>
+        ensures denominator { result.denominator ≡ self.now.denominator }
+        ensures states { result.states.now ≡ self.now.states.items }
+        ensures choices { result.choices.now ≡ self.now.choices.items }
+        ensures branches { result.branches.now ≡ self.now.branches.items }
+    {
+        List::new(
+            self.denominator,
+            &self.states,
+            &self.choices,
+            &self.branches,
+        )
+    }
 }
 
+// Each question goes to the list that is lent: a trait has no way to pass all of them on at once.
 impl Source for OwnedList {
     ghost table = { λ o. list_table o.denominator o.states.items o.choices.items o.branches.items };
 
     fn states(&self) -> u32 {
-        lent(self).states()
+        self.list().states()
     }
 
     fn denominator(&self) -> u32 {
-        self.denominator
+        self.list().denominator()
     }
 
     fn choices(&self, state: u32) -> u32 {
-        lent(self).choices(state)
+        self.list().choices(state)
     }
 
     fn reward(&self, state: u32, choice: u32) -> i32 {
-        lent(self).reward(state, choice)
+        self.list().reward(state, choice)
     }
 
     fn branches(&self, state: u32, choice: u32) -> u32 {
-        lent(self).branches(state, choice)
+        self.list().branches(state, choice)
     }
 
     fn branch(&self, state: u32, choice: u32, branch: u32) -> (u32, u32) {
-        lent(self).branch(state, choice, branch)
+        self.list().branch(state, choice, branch)
     }
 }

@@ -9,7 +9,7 @@ use Rattle.table.specs.Sums.{sum_n}
 use Rattle.table.specs.Table.{Table, successor, weight}
 use Rattle.table.specs.Limits.{Lawful}
 use Rattle.table.specs.Faults.{Limit, kept, leads_to}
-use Rattle.table.specs.Walk.{each, branch_walk, choice_walk, state_walk, walk, first_broken, fault_of}
+use Rattle.table.specs.Walk.{each, branch_walk, choice_walk, state_walk, walk, first_broken}
 use Rattle.table.specs.Law.{WalkLaw}
 use Rattle.table.specs.declared.fault.Fault.{Fault}
 use Rattle.table.specs.declared.fault.Fault.TheVariants.{States, Denominator, Choices, Reward, Branches, Successor, Weight, Repeated, Sum}
@@ -179,24 +179,3 @@ module _ (T : Table) where
     lawful = ((λ h. lawful_from_walk (none_broken T (walk T) h)), (λ w. all_kept T (walk T) (walk_from_lawful w)));
     first = λ e h. (let r = split T (walk T) e h in record { earlier = r.earlier; later = r.later; place = r.place; held = r.held; broken = r.broken });
   }
-
--- The first steps of the walk
-
-module _ (T : Table) where
-  not_kept : (e : Fault) → (Limit T e → ⊥) → kept T e ≡ false
-  not_kept e h = elim (cases_Bool (kept T e)) [ inl k ↦ absurd (h (limit T e k)) | inr k ↦ k ]
-
-  abbrev rest : List Fault
-  rest = each T.states (state_walk T)
-
-  pub past_states : Limit T States → fault_of T ≡ first_broken T (Denominator ∷ rest)
-  past_states h = cond-true (kept T States) (first_broken T (Denominator ∷ rest)) (Some States) (limit_test T States h)
-
-  pub at_states : (Limit T States → ⊥) → fault_of T ≡ Some States
-  at_states h = cond-false (kept T States) (first_broken T (Denominator ∷ rest)) (Some States) (not_kept States h)
-
-  pub past_denominator : Limit T States → Limit T Denominator → fault_of T ≡ first_broken T (each T.states (state_walk T))
-  past_denominator h k = past_states h ∙ cond-true (kept T Denominator) (first_broken T rest) (Some Denominator) (limit_test T Denominator k)
-
-  pub at_denominator : Limit T States → (Limit T Denominator → ⊥) → fault_of T ≡ Some Denominator
-  at_denominator h k = past_states h ∙ cond-false (kept T Denominator) (first_broken T rest) (Some Denominator) (not_kept Denominator k)

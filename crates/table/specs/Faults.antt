@@ -1,5 +1,5 @@
 -- A fault names a limit and the place at which it is broken.
-use Rattle.std.specs.Prelude.{ℕ, zero, suc, Bool, false, not, ◌&&◌, ◌||◌, pos, neg_ℤ, ◌==◌, int_le, nat_le, nat_lt}
+use Rattle.std.specs.Prelude.{ℕ, zero, suc, Bool, false, not, ◌&&◌, ◌||◌, List, ◌++◌, pos, neg_ℤ, ◌==◌, int_le, nat_le, nat_lt, codes, decimal}
 use Rattle.table.specs.Sums.{sum_n}
 use Rattle.table.specs.Table.{Table, successor, weight}
 use Rattle.table.specs.Limits.{StatesWithin, DenominatorWithin, ChoicesWithin, RewardWithin, BranchesWithin, SuccessorWithin, WeightPresent, SuccessorNew, WeightsComplete}
@@ -9,6 +9,11 @@ use Rattle.table.specs.declared.fault.Notice.{Notice}
 
 abbrev pub noted : ℕ → ℕ → ℕ → ℕ → Notice
 noted number state choice branch = record { number = number; state = state; choice = choice; branch = branch }
+
+-- a notice in print, each number in decimal
+abbrev pub notice_text : Notice → List ℕ
+notice_text n =
+    decimal n.number ++ (codes " at state " ++ (decimal n.state ++ (codes ", choice " ++ (decimal n.choice ++ (codes ", branch " ++ decimal n.branch)))))
 
 -- the number of each fault, with its state, choice and branch; 0 where the walk did not reach one
 abbrev pub notice_of : Fault → Notice

@@ -1,5 +1,7 @@
-ghost use Rattle.std.specs.Prelude.{◌≡◌};
-ghost use Rattle.table.specs.Faults.{notice_of};
+ghost use Rattle.std.specs.Prelude.{◌≡◌, Some};
+ghost use Rattle.table.specs.Faults.{noted, notice_text, notice_of};
+
+use std::fmt;
 
 // A broken limit of a table, and where it is broken.
 #[derive(Clone, Copy, PartialEq, Eq, Debug)]
@@ -48,7 +50,7 @@ pub enum Fault {
 }
 
 // A fault as it is reported: its number and its place, with 0 for what was not reached.
-#[derive(Clone, Copy, PartialEq, Eq, Debug)]
+#[derive(Clone, Copy, PartialEq, Eq, Default, Debug)]
 pub struct Notice {
     pub number: u32,
     pub state: u32,
@@ -56,14 +58,32 @@ pub struct Notice {
     pub branch: u32,
 }
 
-fn noted(number: u32, state: u32, choice: u32, branch: u32) -> Notice
-    ensures { (result.number ≡ number) × (result.state ≡ state) × (result.choice ≡ choice) × (result.branch ≡ branch) }
-{
-    Notice {
-        number,
-        state,
-        choice,
-        branch,
+impl Notice {
+    // A notice with no place.
+    pub fn of_number(number: u32) -> Notice
+        ensures { result ≡ noted number 0 0 0 }
+    {
+        Notice {
+            number,
+            ..Notice::default()
+        }
+    }
+}
+
+impl fmt::Display for Notice {
+    ghost output = { λ notice. Some (notice_text notice) };
+
+    fn fmt<W: fmt::Write>(&self, f: &mut fmt::Formatter<W>) -> fmt::Result {
+        let Notice {
+            number,
+            state,
+            choice,
+            branch,
+        } = self;
+        write!(
+            f,
+            "{number} at state {state}, choice {choice}, branch {branch}"
+        )
     }
 }
 
@@ -71,28 +91,34 @@ impl Fault {
     pub fn notice(&self) -> Notice
         ensures { result ≡ notice_of self.now }
     {
-        match *self {
-            Fault::States => noted(11, 0, 0, 0),
-            Fault::Denominator => noted(12, 0, 0, 0),
-            Fault::Choices { state } => noted(13, state, 0, 0),
-            Fault::Reward { state, choice } => noted(14, state, choice, 0),
-            Fault::Branches { state, choice } => noted(15, state, choice, 0),
+        let (number, state, choice, branch) = match *self {
+            Fault::States => (11, 0, 0, 0),
+            Fault::Denominator => (12, 0, 0, 0),
+            Fault::Choices { state } => (13, state, 0, 0),
+            Fault::Reward { state, choice } => (14, state, choice, 0),
+            Fault::Branches { state, choice } => (15, state, choice, 0),
             Fault::Successor {
                 state,
                 choice,
                 branch,
-            } => noted(16, state, choice, branch),
+            } => (16, state, choice, branch),
             Fault::Weight {
                 state,
                 choice,
                 branch,
-            } => noted(17, state, choice, branch),
+            } => (17, state, choice, branch),
             Fault::Repeated {
                 state,
                 choice,
                 branch,
-            } => noted(18, state, choice, branch),
-            Fault::Sum { state, choice } => noted(19, state, choice, 0),
+            } => (18, state, choice, branch),
+            Fault::Sum { state, choice } => (19, state, choice, 0),
+        };
+        Notice {
+            number,
+            state,
+            choice,
+            branch,
         }
     }
 }

@@ -1,5 +1,6 @@
 ghost use Rattle.std.specs.Prelude.{◌≡◌, [], ◌∷◌};
-ghost use Rattle.table.specs.Table.{successor};
+ghost use Rattle.table.specs.Sums.{sum_n};
+ghost use Rattle.table.specs.Table.{weight};
 ghost use Rattle.table.specs.Faults.{leads_to};
 ghost use Rattle.table.specs.Walk.{branch_walk, head_walk, state_walk, first_broken, fault_of};
 ghost use Rattle.table.specs.Law.{WalkLaw, verdict};
@@ -18,16 +19,16 @@ const MOST_REWARD: i32 = 1_000_000;
 const MOST_BRANCHES: u32 = 8;
 
 // The first broken limit of the source's table, or none: then the table is lawful.
+#[tactic(auto, using(crate::proofs::WalkLaw::walk_law))]
 pub fn check<S: Source>(source: &S) -> Result<(), Fault>
     ensures decides { result ≡ verdict (fault_of (S.table source.now)) }
     ensures law { WalkLaw (S.table source.now) }
 {
     let states = source.states();
-    if states < 1 || states > MOST_STATES {
+    if !(1..=MOST_STATES).contains(&states) {
         return Err(Fault::States);
     }
-    let denominator = source.denominator();
-    if denominator < 1 || denominator > MOST_DENOMINATOR {
+    if !(1..=MOST_DENOMINATOR).contains(&source.denominator()) {
         return Err(Fault::Denominator);
     }
     for state in 0..states {
@@ -36,92 +37,87 @@ pub fn check<S: Source>(source: &S) -> Result<(), Fault>
     Ok(())
 }
 
-// The first broken limit of one state.
+// The first broken limit of one state. A rule of this project: the loops over its choices and branches are left from
+// inside by a label, with the fault found.
 fn check_state<S: Source>(source: &S, state: u32) -> Result<(), Fault>
     ensures { result ≡ verdict (first_broken (S.table source.now) (state_walk (S.table source.now) state)) }
 {
     let choices = source.choices(state);
-    if choices < 1 || choices > MOST_CHOICES {
+    if !(1..=MOST_CHOICES).contains(&choices) {
         return Err(Fault::Choices { state });
     }
-    let found = 'walk: {
+    'walk: {
         for choice in 0..choices {
-            if let Some(fault) = head_fault(source, state, choice) {
-                break 'walk Some(fault);
+            if let Err(fault) = check_head(source, state, choice) {
+                break 'walk Err(fault);
             }
-            let mut sum = 0;
             for branch in 0..source.branches(state, choice) {
-                if let Some(fault) = branch_fault(source, state, choice, branch) {
-                    break 'walk Some(fault);
+                if let Err(fault) = check_branch(source, state, choice, branch) {
+                    break 'walk Err(fault);
                 }
-                let (_, weight) = source.branch(state, choice, branch);
-                sum += u64::from(weight);
             }
-            if sum != u64::from(source.denominator()) {
-                break 'walk Some(Fault::Sum { state, choice });
+            if total_weight(source, state, choice) != u64::from(source.denominator()) {
+                break 'walk Err(Fault::Sum { state, choice });
             }
         }
-        None
-    };
-    match found {
-        Some(fault) => Err(fault),
-        None => Ok(()),
+        Ok(())
     }
+}
+
+// What the weights of a choice add up to.
+fn total_weight<S: Source>(source: &S, state: u32, choice: u32) -> u64
+    ensures { let T = S.table source.now in result ≡ sum_n (T.branches state choice) (weight T state choice) }
+{
+    (0..source.branches(state, choice))
+        .map(|branch| u64::from(source.branch(state, choice, branch).1))
+        .sum()
 }
 
 // What a choice breaks before its branches: its reward, or how many branches it has.
-fn head_fault<S: Source>(source: &S, state: u32, choice: u32) -> Option<Fault>
-    ensures { result ≡ first_broken (S.table source.now) (head_walk state choice) }
+fn check_head<S: Source>(source: &S, state: u32, choice: u32) -> Result<(), Fault>
+    ensures { result ≡ verdict (first_broken (S.table source.now) (head_walk state choice)) }
 {
-    let reward = source.reward(state, choice);
-    if reward < -MOST_REWARD || reward > MOST_REWARD {
-        return Some(Fault::Reward { state, choice });
+    if !(-MOST_REWARD..=MOST_REWARD).contains(&source.reward(state, choice)) {
+        return Err(Fault::Reward { state, choice });
     }
-    let branches = source.branches(state, choice);
-    if branches < 1 || branches > MOST_BRANCHES {
-        return Some(Fault::Branches { state, choice });
+    if !(1..=MOST_BRANCHES).contains(&source.branches(state, choice)) {
+        return Err(Fault::Branches { state, choice });
     }
-    None
+    Ok(())
 }
 
 // What a branch breaks: its successor is no state, its weight is 0, or its successor stands before.
-fn branch_fault<S: Source>(source: &S, state: u32, choice: u32, branch: u32) -> Option<Fault>
-    ensures { result ≡ first_broken (S.table source.now) (branch_walk state choice branch) }
+fn check_branch<S: Source>(source: &S, state: u32, choice: u32, branch: u32) -> Result<(), Fault>
+    ensures { result ≡ verdict (first_broken (S.table source.now) (branch_walk state choice branch)) }
 {
     let (successor, weight) = source.branch(state, choice, branch);
     if successor >= source.states() {
-        return Some(Fault::Successor {
+        return Err(Fault::Successor {
             state,
             choice,
             branch,
         });
     }
     if weight == 0 {
-        return Some(Fault::Weight {
+        return Err(Fault::Weight {
             state,
             choice,
             branch,
         });
     }
     if leads_to(source, state, choice, branch, successor) {
-        return Some(Fault::Repeated {
+        return Err(Fault::Repeated {
             state,
             choice,
             branch,
         });
     }
-    None
+    Ok(())
 }
 
 // Whether one of the first `count` branches of a choice leads to the state `target`.
 fn leads_to<S: Source>(source: &S, state: u32, choice: u32, count: u32, target: u32) -> bool
     ensures { result ≡ leads_to (S.table source.now) state choice target count }
 {
-    for branch in 0..count {
-        let (successor, _) = source.branch(state, choice, branch);
-        if successor == target {
-            return true;
-        }
-    }
-    false
+    (0..count).any(|branch| source.branch(state, choice, branch).0 == target)
 }

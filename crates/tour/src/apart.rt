@@ -1,16 +1,13 @@
-use decomposition::decompose;
+use decomposition::Parts;
 use model::{LoadFault, Model};
+use std::alloc::Global;
 use std::io;
 use table::Source;
 
 // The states and components of a table, and of each state its node and how many of its choices are inside.
 pub(crate) fn print_parts<S: Source>(rt: &HostRuntime, source: &S) -> io::Result<()> {
-    let model = match Model::load(rt.alloc(), source) {
-        Ok(model) => model,
-        Err(fault) => return refused(rt, fault),
-    };
-    let parts = match decompose(rt.alloc(), &model) {
-        Ok(parts) => parts,
+    let (model, parts) = match taken_apart(rt.alloc(), source) {
+        Ok(taken) => taken,
         Err(fault) => return refused(rt, fault),
     };
     let states = model.states();
@@ -19,15 +16,19 @@ pub(crate) fn print_parts<S: Source>(rt: &HostRuntime, source: &S) -> io::Result
     println!(rt; "   states {states}, components {components}, nodes {nodes}")?;
     for state in 0..states {
         let node = parts.node_of(state);
-        let mut inside = 0u64;
-        for choice in 0..model.choices(state) {
-            if parts.is_inside(state, choice) {
-                inside = inside.saturating_add(1);
-            }
-        }
+        let inside = (0..model.choices(state))
+            .filter(|choice| parts.is_inside(state, *choice))
+            .count();
         println!(rt; "   {state} | node {node}, inside choices {inside}")?;
     }
     Ok(())
+}
+
+// The engine's own copy of a table, and its parts.
+fn taken_apart<S: Source>(heap: Global, source: &S) -> Result<(Model, Parts), LoadFault> {
+    let model = Model::load(heap, source)?;
+    let parts = Parts::of(heap, &model)?;
+    Ok((model, parts))
 }
 
 fn refused(rt: &HostRuntime, fault: LoadFault) -> io::Result<()> {

@@ -2,12 +2,11 @@
 #![tactic(auto)]
 
 mod apart;
-mod export;
 mod show;
 
 use apart::print_parts;
-use show::{answer, print_table};
-use sources::{Band, List};
+use show::{Shown, answer};
+use sources::Band;
 use std::io;
 use table::check;
 
@@ -16,12 +15,12 @@ fn main(rt: HostRuntime) -> io::Result<()> {
         "1. A rehedging band: 2 steps either side of the centre, 5 a step to hold, 40 to recentre."
     )?;
     let band = Band::new(2, 5, 40);
-    print_table(&rt, &band)?;
+    print!(rt; "{}", Shown(&band))?;
     answer(&rt, check(&band))?;
     println!(rt; "2. The engine's own copy of it, taken apart into components and nodes.")?;
     print_parts(&rt, &band)?;
     println!(rt; "3. The same band as the day's export, a caller's lists.")?;
-    let list = List::new(4, &export::STATES, &export::CHOICES, &export::BRANCHES);
-    print_table(&rt, &list)?;
+    let list = samples::export();
+    print!(rt; "{}", Shown(&list))?;
     answer(&rt, check(&list))
 }

@@ -1,34 +1,30 @@
-use std::io;
+use std::{fmt, io};
 use table::{Fault, Source};
 
-// A line for each state: each choice with its reward and its branches, successor:weight.
-pub(crate) fn print_table<S: Source>(rt: &HostRuntime, source: &S) -> io::Result<()> {
-    let states = source.states();
-    let denominator = source.denominator();
-    println!(rt; "   states {states}, denominator {denominator}")?;
-    for state in 0..states {
-        print!(rt; "   {state}")?;
-        for choice in 0..source.choices(state) {
-            print_choice(rt, source, state, choice)?;
-        }
-        println!(rt; "")?;
-    }
-    Ok(())
-}
+// A source's table as text: a line for each state, with each choice's reward and branches, successor:weight.
+#[derive(Drop)]
+pub(crate) struct Shown<'a, S>(pub(crate) &'a S);
 
-fn print_choice<S: Source>(
-    rt: &HostRuntime,
-    source: &S,
-    state: u32,
-    choice: u32,
-) -> io::Result<()> {
-    let reward = source.reward(state, choice);
-    print!(rt; " | {reward} to")?;
-    for branch in 0..source.branches(state, choice) {
-        let (successor, weight) = source.branch(state, choice, branch);
-        print!(rt; " {successor}:{weight}")?;
+impl<'a, S: Source> fmt::Display for Shown<'a, S> {
+    fn fmt<W: fmt::Write>(&self, f: &mut fmt::Formatter<W>) -> fmt::Result {
+        let source = self.0;
+        let states = source.states();
+        let denominator = source.denominator();
+        writeln!(f, "   states {states}, denominator {denominator}")?;
+        for state in 0..states {
+            write!(f, "   {state}")?;
+            for choice in 0..source.choices(state) {
+                let reward = source.reward(state, choice);
+                write!(f, " | {reward} to")?;
+                for branch in 0..source.branches(state, choice) {
+                    let (successor, weight) = source.branch(state, choice, branch);
+                    write!(f, " {successor}:{weight}")?;
+                }
+            }
+            writeln!(f, "")?;
+        }
+        Ok(())
     }
-    Ok(())
 }
 
 // What a check answered: accepted, or refused with number and place.
@@ -36,10 +32,5 @@ pub(crate) fn answer(rt: &HostRuntime, checked: Result<(), Fault>) -> io::Result
     let Err(fault) = checked else {
         return println!(rt; "   accepted");
     };
-    let notice = fault.notice();
-    let number = notice.number;
-    let state = notice.state;
-    let choice = notice.choice;
-    let branch = notice.branch;
-    println!(rt; "   refused: {number} at state {state}, choice {choice}, branch {branch}")
+    println!(rt; "   refused: {}", fault.notice())
 }

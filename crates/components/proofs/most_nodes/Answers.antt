@@ -1,6 +1,8 @@
-use Rattle.std.proofs.Common.{refl}
 use Rattle.components.proofs.Law.{every_lawful_table, nodes_within}
 use Rattle.components.proofs.most_nodes.Goals as goal
 
-pub returns : goal.returns
-returns c = record { value = refl; within = nodes_within c.args.states; law = every_lawful_table }
+pub returns-clause-within : goal.returns-clause-within
+returns-clause-within c = nodes_within c.args.states
+
+pub returns-clause-law : goal.returns-clause-law
+returns-clause-law c = every_lawful_table

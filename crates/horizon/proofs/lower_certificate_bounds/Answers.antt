@@ -1,6 +1,5 @@
-use Rattle.std.proofs.Common.{refl}
-use Rattle.horizon.proofs.LowerCertificates.{lower-certificate-bounds}
+use Rattle.horizon.proofs.LowerCertificates.{bound_of_lower_certificate}
 use Rattle.horizon.proofs.lower_certificate_bounds.Goals as goal
 
-pub returns : goal.returns
-returns c = record { number = refl; theorem = lower-certificate-bounds }
+pub returns-clause-theorem : goal.returns-clause-theorem
+returns-clause-theorem c = bound_of_lower_certificate

@@ -1,6 +1,5 @@
-use Rattle.std.proofs.Common.{refl}
-use Rattle.horizon.proofs.LowerBounds.{lower-theorem}
+use Rattle.horizon.proofs.LowerBounds.{bound_of_lower_values}
 use Rattle.horizon.proofs.lower_theorem.Goals as goal
 
-pub returns : goal.returns
-returns c = record { number = refl; theorem = lower-theorem }
+pub returns-clause-theorem : goal.returns-clause-theorem
+returns-clause-theorem c = bound_of_lower_values

@@ -1,6 +1,5 @@
-use Rattle.std.proofs.Common.{refl}
-use Rattle.horizon.proofs.UpperCertificates.{upper-certificate-bounds}
+use Rattle.horizon.proofs.UpperCertificates.{bound_of_upper_certificate}
 use Rattle.horizon.proofs.upper_certificate_bounds.Goals as goal
 
-pub returns : goal.returns
-returns c = record { number = refl; theorem = upper-certificate-bounds }
+pub returns-clause-theorem : goal.returns-clause-theorem
+returns-clause-theorem c = bound_of_upper_certificate

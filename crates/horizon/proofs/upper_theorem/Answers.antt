@@ -1,6 +1,5 @@
-use Rattle.std.proofs.Common.{refl}
-use Rattle.horizon.proofs.UpperBounds.{upper-theorem}
+use Rattle.horizon.proofs.UpperBounds.{bound_of_upper_values}
 use Rattle.horizon.proofs.upper_theorem.Goals as goal
 
-pub returns : goal.returns
-returns c = record { number = refl; theorem = upper-theorem }
+pub returns-clause-theorem : goal.returns-clause-theorem
+returns-clause-theorem c = bound_of_upper_values

@@ -1,6 +1,5 @@
-use Rattle.std.proofs.Common.{refl}
 use Rattle.rules.proofs.Promises.{every_book}
 use Rattle.rules.proofs.bounds_hold.Goals as goal
 
-pub returns : goal.returns
-returns c = record { number = refl; theorem = every_book }
+pub returns-clause-theorem : goal.returns-clause-theorem
+returns-clause-theorem c = every_book

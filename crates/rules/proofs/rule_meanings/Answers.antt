@@ -1,6 +1,5 @@
-use Rattle.std.proofs.Common.{refl}
 use Rattle.rules.proofs.Meaning.{every_meaning}
 use Rattle.rules.proofs.rule_meanings.Goals as goal
 
-pub returns : goal.returns
-returns c = record { number = refl; theorem = every_meaning }
+pub returns-clause-theorem : goal.returns-clause-theorem
+returns-clause-theorem c = every_meaning

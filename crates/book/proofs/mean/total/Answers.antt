@@ -1,55 +1,51 @@
-use Rattle.std.proofs.Common.{◌≡◌, ℕ, ◌+◌, ◌^◌, ◌<◌, ◌≤◌, length, get_or, ℤ, pos, ◌+ℤ◌, ◌*ℤ◌, sym, ap, ◌∙◌, arith, w64, SFits}
+use Rattle.std.proofs.Common.{◌≡◌, ℕ, ◌^◌, ◌<◌, ◌≤◌, ◌++◌, [], List, length, get_or, fold, FitsSigned, ℤ, pos, ◌+ℤ◌, ◌*ℤ◌, sym, ap, ◌∙◌, append-nil, arith, w64, SFits, rules}
 use Rattle.std.proofs.lemmas.Int.{ints, to_z-of_z}
-use Rattle.table.specs.Sums.{sum_n}
-use Rattle.horizon.specs.SumsLemmas.{sum_n_more, sum_z_more}
-use Rattle.book.specs.Rows.{place_at, weight_at, run_sum}
-use Rattle.book.proofs.Rows.{part_of}
+use Rattle.std.proofs.lemmas.Iterator.{YieldsList-from_slice, YieldsList-from_map}
+use Rattle.std.proofs.lemmas.Iterator.Adapters.{serves_from_places}
+use Rattle.book.specs.Rows.{run_sum, Within}
+use Rattle.book.proofs.Rows.{run, branch_fits, along, terms, terms_sum, terms_few, terms_all, run_small, total_is}
 use Rattle.book.proofs.mean.total.Goals as goal
 
--- the weights so far and the next one are part of them all
-weights : (c : goal.After-share-sum) → sum_n c.loop-b.b (weight_at c.args.branches.now c.args.first) + weight_at c.args.branches.now c.args.first c.loop-b.b ≤ 2 ^ 16
-weights c =
-    let m = sum_n_more c.loop-b.b (weight_at c.args.branches.now c.args.first) in
-    let p = part_of (c.loop-b.b + 1) c.args.count (weight_at c.args.branches.now c.args.first) (omega arith) in
-    let l = c.requires.light in
-    omega arith
+pub sum-requires-clause-can : goal.sum-requires-clause-can
+sum-requires-clause-can c = (
+  tt,
+  serves_from_places (YieldsList-from_slice (run c.args.branches.now c.args.first c.args.count) cc) (λ x q r. search rules)
+      (λ x k h e. let p = branch_fits c.args.branches.now c.args.first c.args.count c.args.values.now c.requires.inside c.requires.light c.requires.small x.now k h e in search rules),
+)
 
-pub share-sum-requires : goal.share-sum-requires
-share-sum-requires c =
+pub sum-requires-clause-fits : goal.sum-requires-clause-fits
+sum-requires-clause-fits c =
     let row = c.args.branches.now in
     let first : ℕ = c.args.first in
-    let b = c.loop-b.b in
-    let m = sum_n_more b (weight_at row first) in
-    let p = part_of (b + 1) c.args.count (weight_at row first) (omega arith) in
-    let l = c.requires.light in
-    let here : place_at row first b < length c.args.values.now = c.requires.inside b (omega arith) in
-    let low = c.requires.low (place_at row first b) here in
-    let high = c.requires.high (place_at row first b) here in
-    let fits : SFits w64 (get_or c.args.values.now (place_at row first b) (pos 0)) = omega (arith, ints) in
-    record { light = omega arith; low = simp to_z-of_z low; high = simp to_z-of_z high }
-
-pub overflow_add-sum : goal.overflow_add-sum
-overflow_add-sum c = let w = weights c in omega (arith, ints)
-
-pub loop-b-preserved : goal.loop-b-preserved
-loop-b-preserved c =
-    let row = c.args.branches.now in
-    let first : ℕ = c.args.first in
+    let count : ℕ = c.args.count in
     let values = c.args.values.now in
-    let b : ℕ = c.loop-b.b in
-    let w = weights c in
-    let n = sum_n_more b (weight_at row first) in
-    let f : ℕ → ℤ = λ i. pos (weight_at row first i) *ℤ get_or values (place_at row first i) (pos 0) in
-    let m = sum_z_more b f in
-    let here : place_at row first b < length values = c.requires.inside b (omega arith) in
-    let low = c.requires.low (place_at row first b) here in
-    let high = c.requires.high (place_at row first b) here in
-    let fv : SFits w64 (get_or values (place_at row first b) (pos 0)) = omega (arith, ints) in
-    let v : c.share-sum.result ≡ f b = simp to_z-of_z at c.share-sum.ensures.value in
-    let fr : SFits w64 c.share-sum.result = omega (arith, ints) in
-    let ft : SFits w64 (c.loop-b.sum +ℤ c.share-sum.result) = omega (arith, ints) in
-    let iv : c.loop-b.sum ≡ run_sum row first values b = sym c.loop-b.sum-is ∙ c.loop-b.invariant.0 in (
-      simp (c.loop-b.sum-is, to_z-of_z) (ap (λ (s : ℤ). s +ℤ c.share-sum.result) iv ∙ ap (λ (x : ℤ). run_sum row first values b +ℤ x) v ∙ sym m),
-      omega (arith, ints),
-      omega (arith, ints),
-    )
+    along (terms row first count values) (λ xs. FitsSigned w64 (fold ◌+ℤ◌ (pos 0) xs))
+    (YieldsList-from_map _ (λ x. pos x.1 *ℤ get_or values x.0 (pos 0)) (YieldsList-from_slice (run row first count) cc) c.map.ensures.closure (λ x r q k. search rules))
+    (λ xs more e.
+    let s = terms_sum row first count values xs more e in
+    let b = run_small row first count values c.requires.inside c.requires.light c.requires.small (length xs) (terms_few row first count values xs more e) in
+    omega (arith, ints))
+
+module _ (c : goal.After-sum) where
+  sum_is : c.sum.result ≡ run_sum c.args.branches.now c.args.first c.args.values.now c.args.count
+  sum_is =
+      let row = c.args.branches.now in
+      let first : ℕ = c.args.first in
+      let count : ℕ = c.args.count in
+      let values = c.args.values.now in
+      total_is (terms row first count values) _ c.sum.result c.sum.ensures.ran
+      (YieldsList-from_map _ (λ x. pos x.1 *ℤ get_or values x.0 (pos 0)) (YieldsList-from_slice (run row first count) cc) c.map.ensures.closure (λ x r q k. search rules))
+      ∙ terms_sum row first count values (terms row first count values) [] (sym (append-nil (terms row first count values)))
+      ∙ ap (λ (k : ℕ). run_sum row first values k) (terms_all row first count values c.requires.within)
+
+  within : Within (2 ^ 62) c.sum.result
+  within =
+      let e = sum_is in
+      let b = run_small c.args.branches.now c.args.first c.args.count c.args.values.now c.requires.inside c.requires.light c.requires.small c.args.count (omega arith) in
+      (omega (arith, ints), omega (arith, ints))
+
+pub returns : goal.returns
+returns c =
+    let b = within c in
+    let f : SFits w64 c.sum.result = omega (arith, ints) in
+    record { value = simp to_z-of_z (sum_is c); within = simp to_z-of_z b }

@@ -7,7 +7,7 @@ module _ (g : _) (c : goal.After-round g) where
   rounded = let f : SFits w64 c.args.total = search rules in simp to_z-of_z at c.round.ensures
 
   bound : (neg_ℤ (pos (2 ^ 62)) ≤ℤ c.round.result) × (c.round.result ≤ℤ pos (2 ^ 62))
-  bound = rw rounded (g.met.S.Side.within c.args.total c.args.denominator (2 ^ 62) c.requires.low c.requires.high)
+  bound = rw rounded (g.met.S.Side.within c.args.total c.args.denominator (2 ^ 62) c.requires.total.0 c.requires.total.1)
 
   reward : c.scaled.result ≡ pos 1048576 *ℤ c.args.reward
   reward = let f : SFits w32 c.args.reward = search rules in simp to_z-of_z at c.scaled.ensures.value
@@ -15,8 +15,7 @@ module _ (g : _) (c : goal.After-round g) where
 pub overflow_add-result : goal.overflow_add-result
 overflow_add-result g c =
     let b = bound g c in
-    let l = c.scaled.ensures.low in
-    let h = c.scaled.ensures.high in
+    let s = c.scaled.ensures.within in
     let fs : SFits w64 c.scaled.result = omega (arith, ints) in
     let fo : SFits w64 c.round.result = omega (arith, ints) in
     simp to_z-of_z (omega (arith, ints))
@@ -24,8 +23,7 @@ overflow_add-result g c =
 pub returns : goal.returns
 returns g c =
     let b = bound g c in
-    let l = c.scaled.ensures.low in
-    let h = c.scaled.ensures.high in
+    let s = c.scaled.ensures.within in
     let fs : SFits w64 c.scaled.result = omega (arith, ints) in
     let fo : SFits w64 c.round.result = omega (arith, ints) in
     let ft : SFits w64 (c.scaled.result +ℤ c.round.result) = omega (arith, ints) in

@@ -1,22 +1,20 @@
-use Rattle.std.proofs.Common.{◌≡◌, ℕ, ◌+◌, ◌<◌, false}
+use Rattle.std.proofs.Common.{◌≡◌, ℕ, ◌+◌, ◌<◌, eqb, false, drop, filter}
+use Rattle.std.specs.List.{range_with_len}
 use Rattle.components.specs.Nodes.{node_of}
-use Rattle.rules.specs.Choosing.{at}
 use Rattle.rules.specs.Play.{distance}
-use Rattle.book.specs.Frames.{table_of}
+use Rattle.book.specs.Layouts.{layout_table}
 use Rattle.book.proofs.Distances.{Partly}
 use Rattle.book.proofs.play.measure.Given as goal
 
--- no state so far is marked
-abbrev pub invariant-loop-s : goal.invariant-loop-s
-invariant-loop-s l = (u : ℕ) → u < l.s → at l.marks u ≡ (table_of l.frame).states + 1
-
 -- states are marked up to the round
 abbrev pub invariant-loop-round : goal.invariant-loop-round
-invariant-loop-round l = Partly (table_of l.frame) l.node l.target l.round 0 l.marks
+invariant-loop-round l = Partly (layout_table l.layout) l.node l.target l.round 0 l.marks
 
--- states so far are marked up to the next round, and if `further` is false none of them is that far
+-- states below s are marked up to the next round, and if `further` is false none of them is that far; the members that are left are the states of the node from s on
 abbrev pub invariant-loop-state : goal.invariant-loop-state
 invariant-loop-state l =
-    Partly (table_of l.frame) l.node l.target l.round l.state l.marks
-    × (l.further ≡ false → (u : ℕ) → u < l.state → node_of (table_of l.frame) u ≡ l.node
-    → distance (table_of l.frame) l.target u ≡ l.round + 1 → ⊥)
+    (s : ℕ) × (m : ℕ) × (s + m ≡ (layout_table l.layout).states)
+    × (drop l.state-index l.members ≡ filter (λ u. eqb (node_of (layout_table l.layout) u) l.node) (range_with_len s m))
+    × Partly (layout_table l.layout) l.node l.target l.round s l.marks
+    × (l.further ≡ false → (u : ℕ) → u < s → node_of (layout_table l.layout) u ≡ l.node
+    → distance (layout_table l.layout) l.target u ≡ l.round + 1 → ⊥)

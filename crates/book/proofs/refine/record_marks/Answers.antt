@@ -1,58 +1,49 @@
-use Rattle.std.proofs.Common.{◌≡◌, ℕ, Bool, true, false, ◌&&◌, sym, ◌∙◌, ⊎_elim, arith}
-use Rattle.std.proofs.lemmas.Bool.{cases_Bool, cond-true, cond-false, and_from, and_left, and_right}
+use Rattle.std.proofs.Common.{◌≡◌, ℕ, true, false, List, sym, ◌∙◌, ⊎_elim, arith}
+use Rattle.std.proofs.lemmas.Bool.{cases_Bool, cond-true, cond-false}
+use Rattle.table.specs.Table.{Table}
 use Rattle.components.specs.Nodes.{states_of}
 use Rattle.rules.specs.Choosing.{at}
-use Rattle.book.specs.Frames.{table_of}
-use Rattle.book.specs.declared.frame.Frame.{Frame}
+use Rattle.book.specs.Layouts.{layout_table}
+use Rattle.book.proofs.Layouts.{law}
 use Rattle.book.proofs.Members.{member_of, written_more, written_all}
-use Rattle.book.proofs.StepExtremes.{home_of, home_node, to_node, not_node}
+use Rattle.book.proofs.StepExtremes.{to_node, not_node}
 use Rattle.book.proofs.refine.record_marks.Goals as goal
 
 pub bounds-marks-state : goal.bounds-marks-state
 bounds-marks-state c =
-    let f : Frame = c.args.frame.now in
-    let m = (member_of f c.requires.framed (home_of f c.args.component) (home_node f c.requires.framed c.args.component c.requires.component) c.loop-place.place (omega arith) (omega arith)).0 in
-    let z = c.requires.size.1 in
-    omega arith
+    let m = member_of (layout_table c.args.layout.now) c.home_of-node.result c.members_of-members.result.now c.members_of-members.ensures c.loop-state.state-index (omega arith) in
+    omega (arith, m.0, c.requires.size.1)
 
 pub bounds-recorded-state : goal.bounds-recorded-state
 bounds-recorded-state c =
-    let f : Frame = c.args.frame.now in
-    let m = (member_of f c.requires.framed (home_of f c.args.component) (home_node f c.requires.framed c.args.component c.requires.component) c.loop-place.place (omega arith) (omega arith)).0 in
-    let z = c.requires.size.0 in
-    omega arith
+    let m = member_of (layout_table c.args.layout.now) c.home_of-node.result c.members_of-members.result.now c.members_of-members.ensures c.loop-state.state-index (omega arith) in
+    omega (arith, m.0, c.requires.size.0, c.loop-state.auto.recorded)
 
-pub loop-place-preserved : goal.loop-place-preserved
-loop-place-preserved c =
-    let f : Frame = c.args.frame.now in
-    let k : ℕ = c.args.component in
-    let v : ℕ = home_of f k in
-    let i : ℕ = c.loop-place.place in
-    let m = member_of f c.requires.framed v (home_node f c.requires.framed k c.requires.component) i (omega arith) (omega arith) in
-    let h = m.0 in
-    let z = c.requires.size.0 in
-    written_more f v 0 (at c.args.marks.now) i c.args.recorded.now c.loop-place.recorded m.1 (omega arith) c.loop-place.invariant
+pub loop-state-preserved : goal.loop-state-preserved
+loop-state-preserved c =
+    let T : Table = layout_table c.args.layout.now in
+    let ms : List ℕ = c.members_of-members.result.now in
+    let i : ℕ = c.loop-state.state-index in
+    let m = member_of T c.home_of-node.result ms c.members_of-members.ensures i (omega arith) in
+    written_more T c.home_of-node.result ms 0 (at c.args.marks.now) i c.args.recorded.now c.loop-state.recorded m.1
+    (omega (arith, m.0, c.requires.size.0, c.loop-state.auto.recorded)) c.loop-state.invariant
 
 pub returns : goal.returns
 returns c =
-    let f : Frame = c.args.frame.now in
+    let T : Table = layout_table c.args.layout.now in
+    let L = law c.args.layout.now in
     let k : ℕ = c.args.component in
-    let v : ℕ = home_of f k in
-    let rises : Bool = c.args.rises in
+    let v : ℕ = c.home_of-node.result in
+    let known = c.home_of-node.ensures.node in
+    let home = c.home_of-node.ensures.home in
     let new : ℕ → ℕ = at c.args.marks.now in
     let old : ℕ → ℕ = at c.args.recorded.now in
     λ s h. ⊎_elim
-    (λ (e : states_of (table_of f) k s ≡ true).
-    written_all f v 0 new c.loop-place.place c.args.recorded.now c.loop-place.recorded c.requires.framed
-    (home_node f c.requires.framed k c.requires.component) c.loop-place-test.false c.loop-place.invariant s h (to_node f c.requires.framed k c.requires.component s h e)
-    ∙ sym (cond-true (states_of (table_of f) k s && rises) (new s) (old s) (and_from (states_of (table_of f) k s) rises e c.if-not-rises.false)))
-    (λ (e : states_of (table_of f) k s ≡ false).
-    c.loop-place.invariant.1 s (not_node f c.requires.framed k c.requires.component s h e)
-    ∙ sym (cond-false (states_of (table_of f) k s && rises) (new s) (old s) (and_left (states_of (table_of f) k s) rises e)))
-    (cases_Bool (states_of (table_of f) k s))
-
-pub returns-then-not-rises : goal.returns-then-not-rises
-returns-then-not-rises c =
-    let T = table_of c.args.frame.now in
-    let k : ℕ = c.args.component in
-    λ s h. sym (cond-false (states_of T k s && c.args.rises) (at c.args.marks.now s) (at c.args.recorded.now s) (and_right (states_of T k s) c.args.rises c.if-not-rises.true))
+    (λ (e : states_of T k s ≡ true).
+    written_all T v c.members_of-members.result.now 0 new c.loop-state.state-index c.args.recorded.now c.loop-state.recorded
+    c.members_of-members.ensures (omega arith) c.loop-state.invariant s h (to_node T L k v known home s h e)
+    ∙ sym (cond-true (states_of T k s) (new s) (old s) e))
+    (λ (e : states_of T k s ≡ false).
+    c.loop-state.invariant.1 s (not_node T L k v known home s h e)
+    ∙ sym (cond-false (states_of T k s) (new s) (old s) e))
+    (cases_Bool (states_of T k s))

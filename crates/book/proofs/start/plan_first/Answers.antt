@@ -5,13 +5,18 @@ use Rattle.table.specs.Table.{Table}
 use Rattle.components.specs.Nodes.{nodes}
 use Rattle.rules.specs.declared.exit.Exit.{Exit}
 use Rattle.rules.specs.declared.exit.Exit.TheVariants.{Stay}
-use Rattle.book.specs.Frames.{table_of}
+use Rattle.book.specs.Layouts.{layout_table}
 use Rattle.book.specs.Starts.{first_exit}
+use Rattle.book.proofs.Layouts.{nodes_few}
 use Rattle.book.proofs.start.plan_first.Goals as goal
+
+pub overflow_cast-node : goal.overflow_cast-node
+overflow_cast-node c =
+    omega (arith, nodes_few c.args.layout.now, c.requires.size, c.loop-node.auto.plan, c.loop-node-test.true)
 
 pub loop-node-preserved : goal.loop-node-preserved
 loop-node-preserved c =
-    let T : Table = table_of c.args.frame.now in
+    let T : Table = layout_table c.args.layout.now in
     let xs : List Exit = c.loop-node.plan in
     let n : ℕ = c.loop-node.node in
     let l : n < length xs = omega arith in
@@ -20,6 +25,6 @@ loop-node-preserved c =
 
 pub returns : goal.returns
 returns c =
-    let T : Table = table_of c.args.frame.now in
+    let T : Table = layout_table c.args.layout.now in
     let z = c.requires.size in
     fill_by_all (first_exit T) c.loop-node.plan (nodes T) Stay (omega arith) (λ k l. c.loop-node.invariant k (omega arith))

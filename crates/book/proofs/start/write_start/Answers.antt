@@ -2,8 +2,9 @@ use Rattle.std.proofs.Common.{◌≡◌, ℕ, List, replicate, ℤ, pos, refl, �
 use Rattle.std.proofs.lemmas.List.{with_items_is}
 use Rattle.std.proofs.lemmas.Int.{to_z-of_z}
 use Rattle.table.specs.Table.{Table}
-use Rattle.book.specs.Frames.{table_of}
+use Rattle.book.specs.Layouts.{layout_table}
 use Rattle.book.proofs.Starts.{started}
+use Rattle.book.proofs.Layouts.{law}
 use Rattle.book.proofs.start.write_start.Goals as goal
 
 -- a list that is filled with one number
@@ -12,14 +13,14 @@ filled xs n m a b h e q = h (λ y w. w) ∙ ap₂ replicate e q
 
 pub returns : goal.returns
 returns c =
-    let T : Table = table_of c.args.frame.now in
+    let T : Table = layout_table c.args.layout.now in
     let B = c.args.book.now in
     let S = c.requires.sized in
     let fb : SFits w64 c.widest-bottom.result.0 = search rules in
     let ft : SFits w64 c.widest-bottom.result.1 = search rules in
     let eb = c.widest-bottom.ensures.bottom in
     let et = c.widest-bottom.ensures.top in
-    started T c.requires.framed.lawful _ record {
+    started T (law c.args.layout.now) _ record {
       vector = filled _ _ _ (pos 0) _ c.fill.ensures.items S.vector refl;
       recorded = with_items_is B.recorded c.record_first.new.recorded (search rules) ∙ c.record_first.ensures;
       lo = filled _ _ _ _ _ (simp to_z-of_z at c.fill-2.ensures.items) S.lo eb;

@@ -1,27 +1,13 @@
-use Rattle.std.proofs.Common.{ap, ◌∙◌, arith}
-use Rattle.std.proofs.lemmas.List.{take_all}
-use Rattle.std.specs.Str.Parse.{digits_value}
-use Rattle.console.proofs.Figures.{digit_in, number_more, number_small}
+use Rattle.std.proofs.Common.{ℕ, List, ◌∙◌, subst, arith}
+use Rattle.std.specs.Str.Parse.{ParsesUnsigned}
+use Rattle.console.proofs.Figures.{text_digits, parsed, no_error, ok_value}
 use Rattle.console.proofs.command.number.Goals as goal
 
-pub overflow_sub-digit : goal.overflow_sub-digit
-overflow_sub-digit c = omega (arith, digit_in c.args.digits.now c.loop-digit.digit-index c.requires.digits (omega arith))
-
-pub overflow_mul-number : goal.overflow_mul-number
-overflow_mul-number c =
-    let small = number_small c.args.digits.now c.loop-digit.digit-index c.requires.digits c.requires.few (omega arith) in
-    omega arith
-
-pub overflow_add-number : goal.overflow_add-number
-overflow_add-number c =
-    let small = number_small c.args.digits.now c.loop-digit.digit-index c.requires.digits c.requires.few (omega arith) in
-    let digit = digit_in c.args.digits.now c.loop-digit.digit-index c.requires.digits (omega arith) in
-    omega (arith, c.from.ensures)
-
-pub loop-digit-preserved : goal.loop-digit-preserved
-loop-digit-preserved c =
-    let more = number_more c.args.digits.now c.loop-digit.digit-index c.requires.digits (omega arith) in
-    omega (arith, c.from.ensures)
+pub returns-in_err-ok : goal.returns-in_err-ok
+returns-in_err-ok c =
+    absurd (no_error _ _ c.from_utf8.result c.from_utf8.ensures.cases (λ e bad. bad.0 (text_digits c.args.digits.now c.requires)) c.in_err-ok.ensures.variant)
 
 pub returns : goal.returns
-returns c = c.loop-digit.invariant ∙ ap (digits_value 10) (take_all c.loop-digit.digit-index c.args.digits.now (omega arith))
+returns c =
+    let text = ok_value _ _ c.from_utf8.result c.in_ok-ok.field-0 c.from_utf8.ensures.cases c.in_ok-ok.ensures.value in
+    c.ok-2.ensures.value ∙ parsed c.args.digits.now c.parse.result (subst (λ (bs : List ℕ). ParsesUnsigned 64 10 bs c.parse.result) text.0 c.parse.ensures.value.0) c.requires (omega arith)

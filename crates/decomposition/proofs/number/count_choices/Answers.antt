@@ -1,16 +1,28 @@
-use Rattle.std.proofs.Common.{◌≡◌, ℕ, ◌<◌, ◌≤◌, arith}
+use Rattle.std.proofs.Common.{◌≡◌, ℕ, ◌-◌, ap, ◌∙◌, refl, arith, rules, tests}
+use Rattle.std.specs.List.{range_with_len}
+use Rattle.std.proofs.lemmas.Iterator.{YieldsList-from_range, YieldsList-from_map}
+use Rattle.std.proofs.lemmas.Iterator.Consumers.{YieldsList-at, sum_by_from_yields_List, fits_by_from_yields_list}
+use Rattle.table.specs.Sums.{sum_n}
 use Rattle.table.specs.Table.{Table}
-use Rattle.decomposition.proofs.Numbers.{sum_more}
+use Rattle.model.specs.Held.{table_of}
+use Rattle.model.proofs.Unbroken.{model_lawful}
+use Rattle.decomposition.proofs.Searches.{sum_counted, few_counted}
 use Rattle.decomposition.proofs.number.count_choices.Goals as goal
 
-pub loop-state-preserved : goal.loop-state-preserved
-loop-state-preserved g c =
-    let T : Table = g.S.Source.table c.args.source.now in
-    let k : ℕ = c.loop-state.state in
-    let h : k < T.states = omega (arith, c.states-state-end.ensures.value) in
-    let few : T.choices k ≤ 16 = (c.requires.choices k h).1 in
-    let e = sum_more k T.choices in
-    let a = c.loop-state.invariant.0 in
-    let b = c.loop-state.invariant.1 in
-    let q : c.choices.result ≡ T.choices k = c.choices.ensures in
-    (omega arith, omega arith)
+pub sum-requires-clause-fits : goal.sum-requires-clause-fits
+sum-requires-clause-fits c =
+    let T : Table = table_of c.args.model.now in
+    let n : ℕ = c.states.result in
+    let whole : n - 0 ≡ n = omega arith in
+    fits_by_from_yields_list T.choices (range_with_len 0 n) c.map.result _
+    (YieldsList-from_map _ T.choices (YieldsList-at c.map.ensures.source (YieldsList-from_range 0 n n refl whole)) c.map.ensures.closure (λ x r q k. search (rules, tests)))
+    (few_counted T (model_lawful c.args.model.now) n c.states.ensures.value)
+
+pub returns : goal.returns
+returns c =
+    let T : Table = table_of c.args.model.now in
+    let n : ℕ = c.states.result in
+    let whole : n - 0 ≡ n = omega arith in
+    sum_by_from_yields_List T.choices (range_with_len 0 n) c.map.result c.sum.result c.sum.ensures.ran
+    (YieldsList-from_map _ T.choices (YieldsList-at c.map.ensures.source (YieldsList-from_range 0 n n refl whole)) c.map.ensures.closure (λ x r q k. search (rules, tests)))
+    ∙ sum_counted n T.choices ∙ ap (λ (k : ℕ). sum_n k T.choices) c.states.ensures.value

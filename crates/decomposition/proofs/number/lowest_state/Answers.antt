@@ -1,17 +1,15 @@
-use Rattle.std.proofs.Common.{sym, ◌∙◌, arith, below_more}
-use Rattle.components.proofs.Labels.{first_is}
+use Rattle.std.proofs.Common.{◌≡◌, ℕ, ◌-◌, Bool, true, false, ◌∙◌, refl, arith, rules, tests}
+use Rattle.std.proofs.lemmas.Iterator.{YieldsList-from_range, first_from_find}
 use Rattle.decomposition.specs.Bits.{bit_at}
+use Rattle.decomposition.proofs.Searches.{lowest_found}
 use Rattle.decomposition.proofs.number.lowest_state.Goals as goal
-
-pub returns-then-bit : goal.returns-then-bit
-returns-then-bit c =
-    sym (first_is c.args.states (bit_at c.args.words.now c.args.state) c.loop-other.other (omega arith)
-    (sym c.bit.ensures ∙ c.if-bit.true) c.loop-other.invariant)
-
-pub loop-other-preserved : goal.loop-other-preserved
-loop-other-preserved c = below_more _ _ c.loop-other.invariant (sym c.bit.ensures ∙ c.if-bit.false)
 
 pub returns : goal.returns
 returns c =
-    sym (first_is c.args.states (bit_at c.args.words.now c.args.state) c.args.state (omega arith)
-    c.requires.1.1.1 (λ j h. c.loop-other.invariant j (omega arith)))
+    let s : ℕ = c.args.state in
+    let whole : s - 0 ≡ s = omega arith in
+    let p : ℕ → Bool = bit_at c.args.square.now.words.items s in
+    c.unwrap_or.ensures
+    ∙ lowest_found c.args.states s p c.find.result c.requires.within c.requires.itself
+    (first_from_find _ _ c.find.result (λ (x : ℕ). p x ≡ true) (λ (x : ℕ). p x ≡ false) c.find.ensures.ran (YieldsList-from_range 0 s s refl whole)
+    (λ x q k. search (rules, tests)) (λ x q k. search (rules, tests)))

@@ -1,6 +1,7 @@
 use Rattle.decomposition.specs.Dropping.{DroppedAll}
+use Rattle.model.specs.Held.{table_of}
 use Rattle.decomposition.proofs.passes.drop_choices.Given as goal
 
 -- the states so far have been tried
 abbrev pub invariant-loop-state : goal.invariant-loop-state
-invariant-loop-state g l = DroppedAll (g.S.Source.table l.source) l.words l.state l.initial.flags l.flags l.changed
+invariant-loop-state l = DroppedAll (table_of l.model) l.square.words.items l.state l.initial.kept.flags.items l.kept.flags.items l.changed

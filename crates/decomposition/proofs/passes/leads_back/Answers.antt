@@ -1,30 +1,34 @@
-use Rattle.std.proofs.Common.{◌≡◌, ℕ, Bool, true, false, sym, ap, ◌∙◌, arith}
-use Rattle.std.proofs.lemmas.Bool.{and_from}
+use Rattle.std.proofs.Common.{◌≡◌, ℕ, ◌-◌, ◌<◌, Bool, ap, ◌∙◌, refl, arith, rules, tests}
+use Rattle.std.proofs.iter.Serving.{serving}
+use Rattle.std.proofs.lemmas.Iterator.{YieldsList-from_range}
+use Rattle.std.proofs.lemmas.Iterator.Search.{all_from_yields_List}
 use Rattle.table.specs.Table.{Table, successor}
 use Rattle.components.specs.Below.{every}
+use Rattle.model.specs.Held.{table_of}
+use Rattle.model.proofs.Unbroken.{model_lawful}
 use Rattle.decomposition.specs.Bits.{bit_at}
-use Rattle.decomposition.proofs.Drops.{every_false}
-use Rattle.decomposition.proofs.Marked.{every_more}
+use Rattle.decomposition.proofs.Searches.{every_counted}
 use Rattle.decomposition.proofs.passes.leads_back.Goals as goal
 
-pub returns-then-not-bit : goal.returns-then-not-bit
-returns-then-not-bit g c =
-    let T : Table = g.S.Source.table c.args.source.now in
+pub all-requires-clause-callable : goal.all-requires-clause-callable
+all-requires-clause-callable c =
+    let T : Table = table_of c.args.model.now in
+    let law = model_lawful c.args.model.now in
     let s : ℕ = c.args.state in
     let d : ℕ = c.args.choice in
-    let b : ℕ = c.loop-branch.branch in
-    let p : ℕ → Bool = λ k. bit_at c.args.words.now (successor T s d k) s in
-    let q : c.branch-successor.result.0 ≡ successor T s d b = ap (λ (x : ℕ × ℕ). x.0) c.branch-successor.ensures in
-    let e : p b ≡ false = ap (λ (x : ℕ). bit_at c.args.words.now x s) (sym q) ∙ sym c.bit.ensures ∙ c.if-not-bit.true in
-    sym (every_false (T.branches s d) p b (omega (arith, c.branches-branch-end.ensures)) e)
+    let few = law.states.1 in
+    let here = c.requires.state in
+    let low : s < 256 = omega arith in
+    let lows : (b : ℕ) → b < c.branches.result → (T.branch s d b).0 < 256 =
+    λ b k. (let u = law.successors s d b here c.requires.choice (omega (arith, c.branches.ensures)) in omega arith) in
+    grind (serving, lows, low)
 
-pub loop-branch-preserved : goal.loop-branch-preserved
-loop-branch-preserved g c =
-    let T : Table = g.S.Source.table c.args.source.now in
+pub returns : goal.returns
+returns c =
+    let T : Table = table_of c.args.model.now in
     let s : ℕ = c.args.state in
-    let d : ℕ = c.args.choice in
-    let b : ℕ = c.loop-branch.branch in
-    let p : ℕ → Bool = λ k. bit_at c.args.words.now (successor T s d k) s in
-    let q : c.branch-successor.result.0 ≡ successor T s d b = ap (λ (x : ℕ × ℕ). x.0) c.branch-successor.ensures in
-    let e : p b ≡ true = ap (λ (x : ℕ). bit_at c.args.words.now x s) (sym q) ∙ sym c.bit.ensures ∙ c.if-not-bit.false in
-    every_more b p ∙ and_from (every b p) (p b) c.loop-branch.invariant e
+    let p : ℕ → Bool = λ b. bit_at c.args.square.now.words.items (successor T s c.args.choice b) s in
+    let n : ℕ = c.branches.result in
+    let whole : n - 0 ≡ n = omega arith in
+    all_from_yields_List p _ _ c.all.result c.all.ensures.ran (YieldsList-from_range 0 n n refl whole) (λ x b q k. search (rules, tests))
+    ∙ every_counted n p ∙ ap (λ (k : ℕ). every k p) c.branches.ensures

@@ -1,9 +1,10 @@
 use Rattle.decomposition.specs.Bits.{Marks}
 use Rattle.decomposition.specs.Marking.{flag_at}
+use Rattle.model.specs.Held.{table_of}
 use Rattle.decomposition.proofs.Marked.{by_choices}
 use Rattle.decomposition.proofs.reach.mark_state.Given as goal
 
 -- the kept choices so far are marked
 abbrev pub invariant-loop-choice : goal.invariant-loop-choice
-invariant-loop-choice g l =
-    Marks l.initial.words l.words l.state (by_choices (g.S.Source.table l.source) (flag_at l.flags) l.state l.choice)
+invariant-loop-choice l =
+    Marks l.initial.square.words.items l.square.words.items l.state (by_choices (table_of l.model) (flag_at l.kept.flags.items) l.state l.choice)

@@ -1,23 +1,25 @@
-use Rattle.std.proofs.Common.{◌≡◌, ℕ, ◌+◌, ◌≤◌, List, [], ◌∷◌, ◌++◌, map, length, take, vec_items, sym, refl, ap, ◌∙◌, subst, arith}
-use Rattle.std.proofs.lemmas.List.{take_more, take_all, map_push}
+use Rattle.std.proofs.Common.{◌≡◌, ℕ, ◌+◌, List, [], ◌∷◌, ◌++◌, map, take, vec_items, Result, sym, refl, ap, ◌∙◌, subst, arith}
+use Rattle.std.proofs.lemmas.List.{take_more, map_push}
 use Rattle.table.specs.Table.{Table}
 use Rattle.history.specs.Calls.{Call}
 use Rattle.history.specs.Answers.{Answer}
 use Rattle.engine.specs.States.{state_of}
 use Rattle.engine.specs.Replays.{answer_of, call_of, Stand, Replayed}
+use Rattle.history.specs.declared.refusal.Refusal.{Refusal}
 use Rattle.engine.specs.declared.call.Call.{Call as CodeCall}
 use Rattle.engine.specs.declared.call.Answer.{Answer as CodeAnswer}
-use Rattle.engine.proofs.Replays.{failed, none_yet, stand_more, replayed_more}
+use Rattle.engine.proofs.Replays.{none_yet, stand_more, replayed_more}
 use Rattle.engine.proofs.histories.replay.Goals as goal
+
+-- what a call of the code answers
+abbrev Said : Type 0
+Said = Result CodeAnswer Refusal
 
 pub loop-call-init : goal.loop-call-init
 loop-call-init g c =
     let T : Table = g.S.Source.table c.args.source.now in
     let S = state_of c.open-engine.result in
-    ([], tt, subst (λ (l : List CodeAnswer). Replayed T [] S (map answer_of l)) (sym c.new-answers.ensures.items) (none_yet T S c.open-engine.ensures.opens))
-
-pub returns-in_err-make : goal.returns-in_err-make
-returns-in_err-make g c = failed _ c.from_residual.result c.from_residual.ensures.0
+    ([], tt, subst (λ (l : List Said). Replayed T [] S (map answer_of l)) (sym c.new-answers.ensures.items) (none_yet T S c.open-engine.ensures.opens))
 
 pub loop-call-preserved : goal.loop-call-preserved
 loop-call-preserved g c =
@@ -28,8 +30,8 @@ loop-call-preserved g c =
     let x : CodeCall g.row.S.Denot = c.call-item.result in
     let inv = c.loop-call.invariant in
     let m = c.in_ok-make.ensures in
-    let before : List CodeAnswer = vec_items c.loop-call.answers in
-    let a : CodeAnswer = c.in_ok-make.field-0 in
+    let before : List Said = vec_items c.loop-call.answers in
+    let a : Said = c.in_ok-make.field-0 in
     let items : vec_items c.push.new.self ≡ before ++ (a ∷ []) = c.in_ok-push.ensures.items in
     let d : Call = call_of table x m.0 in
     let more : take i calls ++ (x ∷ []) ≡ take (i + 1) calls =
@@ -40,10 +42,3 @@ loop-call-preserved g c =
       subst (λ (l : List Answer). Replayed T (inv.0 ++ (d ∷ [])) (state_of c.make.new.engine) l) bs
           (replayed_more T inv.0 (state_of c.loop-call.engine) (state_of c.make.new.engine) (map answer_of before) d (answer_of a) inv.2 m.1),
     )
-
-pub returns : goal.returns
-returns g c =
-    let calls : List (CodeCall g.row.S.Denot) = c.args.calls.now in
-    let inv = c.loop-call.invariant in
-    let h : length calls ≤ c.loop-call.call-index = omega (arith, c.loop-call-test.false) in
-    (inv.0, subst (λ (l : List (CodeCall g.row.S.Denot)). Stand g.S.Source.table l inv.0) (take_all c.loop-call.call-index calls h) inv.1, inv.2)

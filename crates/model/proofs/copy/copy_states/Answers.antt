@@ -18,4 +18,4 @@ pub returns : goal.returns
 returns g c =
     let T : Table = g.S.Source.table c.args.source.now in
     let e : c.loop-state.state ≡ T.states = omega arith in
-    record { rows = rw e at c.loop-state.invariant; outside = c.states-state-end.ensures.outside }
+    (c.denominator.ensures, record { rows = rw e at c.loop-state.invariant; outside = c.states-state-end.ensures.outside })

@@ -1,10 +1,9 @@
-use Rattle.std.proofs.Common.{string_bytes}
+use Rattle.std.proofs.Common.{arith}
+use Rattle.std.proofs.lemmas.List.{length-take}
 use Rattle.engine.specs.States.{state_of}
-use Rattle.quoting.proofs.Answering.{said_here}
+use Rattle.quoting.proofs.Answering.{fitting}
 use Rattle.quoting.proofs.answer.plan.Goals as goal
 
-pub returns : goal.returns
-returns c = record {
-  bytes = said_here string_bytes c.plan_reply.result c.args.line (state_of c.args.engine.now) 80 _ _ _ _ c.states-states.ensures c.plan-result.ensures.answer c.plan_reply.ensures;
-  engine = c.plan-result.ensures.holds;
-}
+pub slice_bounds-plan_line-end : goal.slice_bounds-plan_line-end
+slice_bounds-plan_line-end c =
+    omega (arith, fitting (state_of c.args.engine.now) _ _ c.in-Ok.ensures.answer, length-take c.states-states.result c.plan.new.list, c.plan.auto.list)

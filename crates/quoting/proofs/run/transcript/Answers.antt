@@ -1,4 +1,4 @@
-use Rattle.std.proofs.Common.{◌≡◌, ℕ, List, [], ◌∷◌, ◌++◌, string_bytes, ap, ◌∙◌, rules}
+use Rattle.std.proofs.Common.{ℕ, List, ◌++◌, string_bytes, ap, ◌∙◌, rules}
 use Rattle.console.specs.Inputs.{lines_of}
 use Rattle.quoting.specs.Runs.{replies, bytes_of}
 use Rattle.quoting.specs.Consoles.{held}
@@ -10,8 +10,8 @@ use Rattle.quoting.proofs.run.transcript.Goals.{in-Some+in_ok-put_replies, in_de
 pub returns-in_err-first : goal.returns-in_err-first
 returns-in_err-first c = record { bytes = search rules; law = replies_law }
 
-pub returns-in_err-put_line : goal.returns-in_err-put_line
-returns-in_err-put_line c = record { bytes = search rules; law = replies_law }
+pub returns-in_err-text : goal.returns-in_err-text
+returns-in_err-text c = record { bytes = search rules; law = replies_law }
 
 pub returns-in_err-put_replies : goal.returns-in_err-put_replies
 returns-in_err-put_replies c = record { bytes = search rules; law = replies_law }
@@ -20,7 +20,7 @@ pub returns : goal.returns
 returns c =
     let o = c.in_ok-first.ensures in
     let first = string_bytes c.in_ok-first.first in
-    let put : string_bytes c.put_line.new.text ≡ first ++ (10 ∷ []) = c.in_ok-put_line.ensures ∙ ap (λ (bs : List ℕ). bs ++ (first ++ (10 ∷ []))) c.new-text.ensures.bytes in
+    let put = c.in_ok-text.ensures.ok in
     record {
       bytes = elim c.match-console-3.branch [
         | in-Some+in_ok-put_replies w ↦ (

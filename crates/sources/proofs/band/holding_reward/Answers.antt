@@ -4,15 +4,8 @@ use Rattle.std.proofs.lemmas.Int.{ints}
 use Rattle.sources.specs.Bands.{distance}
 use Rattle.sources.proofs.band.holding_reward.Goals as goal
 
-pub overflow_cast-result : goal.overflow_cast-result
-overflow_cast-result c =
-    let m : c.args.cost * c.abs_diff.result ≤ 7000 * 256 = mul-le c.args.cost c.abs_diff.result 7000 256 (omega arith) (omega arith) in
-    omega (arith, ints)
-
 pub overflow_sub-result : goal.overflow_sub-result
-overflow_sub-result c =
-    let m : c.args.cost * c.abs_diff.result ≤ 7000 * 256 = mul-le c.args.cost c.abs_diff.result 7000 256 (omega arith) (omega arith) in
-    omega (arith, ints)
+overflow_sub-result c = omega (arith, ints, mul-le c.args.cost c.abs_diff.result 7000 256 (omega arith) (omega arith))
 
 pub returns : goal.returns
 returns c =

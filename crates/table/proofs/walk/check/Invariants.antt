@@ -1,8 +1,9 @@
-use Rattle.std.proofs.Common.{◌≡◌, None}
-use Rattle.table.specs.Walk.{each, state_walk, first_broken}
+use Rattle.std.proofs.Common.{◌≡◌, Ok}
+use Rattle.table.specs.Walk.{each, state_walk}
+use Rattle.table.proofs.Walks.{checked}
 use Rattle.table.proofs.walk.check.Given as goal
 
 -- nothing is broken at the states so far
 abbrev pub invariant-loop-state : goal.invariant-loop-state
 invariant-loop-state g l =
-    first_broken (g.S.Source.table l.source) (each l.state (state_walk (g.S.Source.table l.source))) ≡ None
+    checked (g.S.Source.table l.source) (each l.state (state_walk (g.S.Source.table l.source))) ≡ Ok tt

@@ -2,19 +2,18 @@ use Rattle.std.proofs.Common.{ap, ◌∙◌}
 use Rattle.table.specs.Table.{Table}
 use Rattle.rules.specs.Setting.{setting_of}
 use Rattle.rules.specs.Book.{start}
-use Rattle.book.proofs.Desks.{frame_table, keeps_at}
+use Rattle.book.specs.Layouts.{layout_table}
+use Rattle.book.proofs.Keeps.{keeps_from}
 use Rattle.book.proofs.desk.Desk.open.Goals as goal
 
 pub invariant_of-result : goal.invariant_of-result
-invariant_of-result g c =
-    record { kept = keeps_at c.in_ok-layout.layout c.frame.result c.frame.ensures c.in_ok-book.book c.in_ok-book.ensures.kept }
+invariant_of-result g c = record { kept = keeps_from (layout_table c.in_ok-layout.layout) c.in_ok-book.book c.in_ok-book.ensures.kept }
 
 pub returns : goal.returns
 returns g c =
-    let l = c.in_ok-layout.layout in
     let e = c.in_ok-layout.ensures in
     record {
       lawful = e.lawful;
       same = e.same;
-      start = c.in_ok-book.ensures.start ∙ ap (λ (T : Table). start (setting_of T)) (frame_table l c.frame.result c.frame.ensures ∙ e.same);
+      start = c.in_ok-book.ensures.start ∙ ap (λ (T : Table). start (setting_of T)) e.same;
     }

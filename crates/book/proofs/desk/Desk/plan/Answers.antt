@@ -1,6 +1,15 @@
-use Rattle.std.proofs.Common.{◌<◌, ◌≤◌, length, refl, arith}
+use Rattle.std.proofs.Common.{ℕ, ◌<◌, ◌≤◌, List, length, sym, refl, ap, ◌∙◌, subst, arith}
+use Rattle.table.specs.Table.{Table}
+use Rattle.rules.specs.Choosing.{at}
+use Rattle.rules.specs.Book.{exit_at}
+use Rattle.rules.specs.Play.{play}
+use Rattle.rules.specs.declared.exit.Exit.{Exit}
+use Rattle.book.specs.Plays.{NamesState}
 use Rattle.book.specs.Desks.{desk_table, desk_book}
-use Rattle.book.proofs.Desks.{states_within, no_plan, kept_at, keeps_at, some_plan}
+use Rattle.book.proofs.Desks.{no_plan, some_plan}
+use Rattle.book.proofs.Keeps.{keeps_true, keeps_from}
+use Rattle.book.proofs.Lists.{filled}
+use Rattle.book.proofs.Plays.{fit_names, play_written}
 use Rattle.book.proofs.desk.Desk.plan.Goals as goal
 
 pub returns-then-list-states : goal.returns-then-list-states
@@ -9,27 +18,39 @@ returns-then-list-states c =
     let h : length c.args.list.now < (desk_table d).states = omega (arith, c.states.ensures, c.if-list-states.true) in
     record { list = no_plan (desk_table d) (desk_book d) c.args.list.now h; table = refl; book = refl }
 
-pub write_plan-requires : goal.write_plan-requires
-write_plan-requires c =
+pub write_nodes-requires : goal.write_nodes-requires
+write_nodes-requires c =
     let d = c.args.self.now in
-    let o = c.frame-frame.ensures in
+    let T : Table = desk_table d in
+    let K = keeps_true T d.book d.kept in
+    let lr = K.fit.lengths.recorded in
+    let lp = K.fit.lengths.plan in
+    let lm = K.marks in
     record {
-      framed = o.framed;
-      kept = kept_at d.layout c.frame-frame.result o d.book d.kept;
-      room = states_within d.layout c.frame-frame.result o (length c.args.list.now) (omega (arith, c.states.ensures, c.if-list-states.false));
+      recorded = omega (arith, ap (λ (l : List ℕ). length l) c.deref.ensures.value, lr);
+      plan = ap (λ (l : List Exit). length l) c.deref-2.ensures.value ∙ lp;
+      named = λ v h. subst (λ (l : List Exit). NamesState T (exit_at l v)) (sym c.deref-2.ensures.value) (fit_names T v (exit_at (desk_book d).plan v) (K.fit.plan v h));
+      marks = omega (arith, c.deref_mut.ensures.len, lm);
+      room = omega (arith, c.states.ensures, c.if-list-states.false);
     }
 
 pub invariant_of-self : goal.invariant_of-self
 invariant_of-self c =
     let d = c.args.self.now in
-    record { kept = keeps_at d.layout c.frame-frame.result c.frame-frame.ensures c.write_plan.new.book c.write_plan.ensures.kept }
+    let K = keeps_true (desk_table d) d.book d.kept in
+    record { kept = keeps_from (desk_table d) _ (record { fit = K.fit; natural = K.natural; halfway = K.halfway; marks = K.marks }) }
 
 pub returns : goal.returns
 returns c =
     let d = c.args.self.now in
-    let h : (desk_table d).states ≤ length c.args.list.now = omega (arith, c.states.ensures, c.if-list-states.false) in
+    let T : Table = desk_table d in
+    let B = desk_book d in
+    let h : T.states ≤ length c.args.list.now = omega (arith, c.states.ensures, c.if-list-states.false) in
+    let m : T.states ≤ length c.write_nodes.new.list = omega (arith, h, c.write_nodes.auto.list) in
     record {
-      list = some_plan d.layout c.frame-frame.result c.frame-frame.ensures (desk_book d) c.args.list.now c.write_plan.new.list h c.write_plan.ensures.list;
+      list = some_plan T B c.args.list.now c.write_nodes.new.list h (filled T.states (play T B) c.write_nodes.new.list c.args.list.now m
+          (λ s l. play_written T B s _ _ (at c.write_nodes.new.list s) (c.write_nodes.ensures.written s l) c.deref.ensures.value c.deref-2.ensures.value)
+          c.write_nodes.ensures.rest);
       table = refl;
-      book = c.write_plan.ensures.book;
+      book = refl;
     }

@@ -12,16 +12,15 @@ returns-in_default c =
     let r = idle_refuses (state_of c.args.self.now) c.in_default.field-0 c.in_default.ensures close tt in
     record { answer = r.answer; holds = r.holds }
 
-pub returns-in_default-held : goal.returns-in_default-held
-returns-in_default-held c =
-    not_idle c.in-Ok.field-0-0 c.in-Ok.field-0-1 (state_of c.args.self.now) c.in_default-held.field-0 c.in-Ok.ensures (ap held_state c.in_default-held.is)
+pub returns-in_err-desk : goal.returns-in_err-desk
+returns-in_err-desk c = not_idle c.in-Ok.field-0-0 c.in-Ok.field-0-1 c.args.self.now.held c.in-Ok.ensures c.in_err-desk.ensures.held.1
 
 pub returns : goal.returns
 returns c =
-    let d = c.in-Loaded.desk in
+    let d = c.in_ok-desk.desk.now in
     let T = desk_table d in
     let B = desk_book d in
-    let here : state_of c.args.self.now ≡ loaded T B = ap held_state c.in-Loaded.is in
+    let here : state_of c.args.self.now ≡ loaded T B = ap held_state c.in_ok-desk.ensures.held in
     record {
       answer = close_answer T B ∙ ap (λ (S : State). answer S close) (sym here);
       holds = close_next T B (desk_table c.close.new.self) (desk_book c.close.new.self) c.close.ensures.table c.close.ensures.book

@@ -3,7 +3,7 @@ use Rattle.history.specs.Calls.{State, loaded, plan, next}
 use Rattle.history.specs.Answers.{Answer, planned, answer}
 use Rattle.book.specs.Desks.{desk_table, desk_book}
 use Rattle.engine.specs.States.{held_state, state_of, list_after}
-use Rattle.engine.proofs.Refusals.{idle_refuses, room_refuses, not_idle, states_stand}
+use Rattle.engine.proofs.Refusals.{idle_refuses, room_refuses, states_stand, not_idle}
 use Rattle.engine.proofs.Accepted.{plan-answer, plan_next}
 use Rattle.engine.proofs.engine.Engine.plan.Goals as goal
 
@@ -19,17 +19,16 @@ returns-then-list-states c =
     let r = room_refuses c.in-Ok.states c.in-Ok.field-0-1 (state_of c.args.self.now) c.in-Ok.ensures list c.if-list-states.true in
     record { answer = r.answer; list = ap (λ (a : Answer). list_after a list) r.answer; holds = r.holds }
 
-pub returns-in_default-held : goal.returns-in_default-held
-returns-in_default-held c =
-    not_idle c.in-Ok.states c.in-Ok.field-0-1 (state_of c.args.self.now) c.in_default-held.field-0 c.in-Ok.ensures (ap held_state c.in_default-held.is)
+pub returns-in_err-desk : goal.returns-in_err-desk
+returns-in_err-desk c = not_idle c.in-Ok.states c.in-Ok.field-0-1 c.args.self.now.held c.in-Ok.ensures c.in_err-desk.ensures.held.1
 
 pub returns : goal.returns
 returns c =
-    let d = c.in-Loaded.desk in
+    let d = c.in_ok-desk.field-0.now in
     let T = desk_table d in
     let B = desk_book d in
     let list = c.args.list.now in
-    let here : state_of c.args.self.now ≡ loaded T B = ap held_state c.in-Loaded.is in
+    let here : state_of c.args.self.now ≡ loaded T B = ap held_state c.in_ok-desk.ensures.held in
     let n = states_stand c.in-Ok.states c.in-Ok.field-0-1 (state_of c.args.self.now) T B c.in-Ok.ensures here in
     let h : T.states ≤ length list = omega (arith, n, c.if-list-states.false) in
     let a : planned c.plan.new.list ≡ answer (state_of c.args.self.now) (plan list) =

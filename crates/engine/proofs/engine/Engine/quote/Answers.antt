@@ -1,4 +1,4 @@
-use Rattle.std.proofs.Common.{◌≡◌, ◌<◌, cond, pos, ◌-ℤ◌, sym, ap, ◌∙◌, arith, w64, SFits, rules}
+use Rattle.std.proofs.Common.{◌≡◌, ◌<◌, is_err, pos, ◌-ℤ◌, sym, ap, ◌∙◌, arith, w64, SFits, rules}
 use lib.Signed.{le_z}
 use Rattle.std.proofs.lemmas.Int.{to_z-of_z}
 use Rattle.history.specs.Calls.{State, loaded, quote}
@@ -19,19 +19,19 @@ returns-then-state-states c =
 
 pub returns-in_default-held : goal.returns-in_default-held
 returns-in_default-held c =
-    not_idle c.in-Ok.states c.in-Ok.field-0-1 (state_of c.args.self.now) c.in_default-held.field-0 c.in-Ok.ensures (ap held_state c.in_default-held.is)
+    not_idle c.in-Ok.states c.in-Ok.field-0-1 c.args.self.now.held c.in-Ok.ensures (ap is_err c.in_default-held.is)
 
 pub returns : goal.returns
 returns c =
-    let d = c.in-Loaded.desk in
+    let d = c.in-Ok-held.desk in
     let T = desk_table d in
     let B = desk_book d in
-    let here : state_of c.args.self.now ≡ loaded T B = ap held_state c.in-Loaded.is in
+    let here : state_of c.args.self.now ≡ loaded T B = ap held_state c.in-Ok-held.is in
     let n = states_stand c.in-Ok.states c.in-Ok.field-0-1 (state_of c.args.self.now) T B c.in-Ok.ensures here in
     let h : c.args.state < T.states = omega (arith, n, c.if-state-states.false) in
     let fl : SFits w64 c.quote-lower.result.0 = search rules in
     let fu : SFits w64 c.quote-lower.result.1 = search rules in
-    let m : c.mark.result ≡ cond (le_z (c.quote-lower.result.1 -ℤ c.quote-lower.result.0) (pos c.args.width)) 1 0 = simp to_z-of_z at c.mark.ensures in
+    let m : c.mark.result ≡ le_z (c.quote-lower.result.1 -ℤ c.quote-lower.result.0) (pos c.args.width) = simp to_z-of_z at c.mark.ensures in
     let a = quote-answer T B c.args.state c.args.width c.mark.result c.quote-lower.result h c.quote-lower.ensures.bounds m
     ∙ ap (λ (S : State). answer S (quote c.args.state c.args.width)) (sym here) in
     simp to_z-of_z a

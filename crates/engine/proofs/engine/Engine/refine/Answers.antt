@@ -5,7 +5,7 @@ use Rattle.book.specs.Desks.{desk_table, desk_book}
 use Rattle.engine.specs.States.{held_state, state_of}
 use Rattle.std.proofs.lemmas.Int.{to_z-of_z}
 use Rattle.components.specs.Nodes.{components}
-use Rattle.engine.proofs.Refusals.{idle_refuses, component_refuses, steps_refuses, not_idle, components_stand}
+use Rattle.engine.proofs.Refusals.{idle_refuses, component_refuses, steps_refuses, components_stand, not_idle}
 use Rattle.engine.proofs.Accepted.{refine-answer, refine_next}
 use Rattle.engine.proofs.engine.Engine.refine.Goals as goal
 
@@ -26,17 +26,16 @@ returns-then-not-counts c =
     c.args.component c.args.steps c.args.width c.if-component-components.false (sym c.if-not-counts.ensures) in
     record { answer = r.answer; holds = r.holds }
 
-pub returns-in_default-held : goal.returns-in_default-held
-returns-in_default-held c =
-    not_idle c.in-Ok.field-0-0 c.in-Ok.components (state_of c.args.self.now) c.in_default-held.field-0 c.in-Ok.ensures (ap held_state c.in_default-held.is)
+pub returns-in_err-desk : goal.returns-in_err-desk
+returns-in_err-desk c = not_idle c.in-Ok.field-0-0 c.in-Ok.components c.args.self.now.held c.in-Ok.ensures c.in_err-desk.ensures.held.1
 
 pub returns : goal.returns
 returns c =
-    let d = c.in-Loaded.desk in
+    let d = c.in_ok-desk.desk.now in
     let T = desk_table d in
     let B = desk_book d in
     let A = desk_book c.refine-made.new.self in
-    let here : state_of c.args.self.now ≡ loaded T B = ap held_state c.in-Loaded.is in
+    let here : state_of c.args.self.now ≡ loaded T B = ap held_state c.in_ok-desk.ensures.held in
     let k = components_stand c.in-Ok.field-0-0 c.in-Ok.components (state_of c.args.self.now) T B c.in-Ok.ensures here in
     let h : c.args.component < components T = omega (arith, k, c.if-component-components.false) in
     let e = sym c.if-not-counts.ensures in

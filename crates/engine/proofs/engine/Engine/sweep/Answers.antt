@@ -17,16 +17,15 @@ returns-then-not-counts c =
     let r = sweeps_refuses c.in-Ok.field-0-0 c.in-Ok.field-0-1 (state_of c.args.self.now) c.in-Ok.ensures c.args.count (sym c.if-not-counts.ensures) in
     record { answer = r.answer; holds = r.holds }
 
-pub returns-in_default-held : goal.returns-in_default-held
-returns-in_default-held c =
-    not_idle c.in-Ok.field-0-0 c.in-Ok.field-0-1 (state_of c.args.self.now) c.in_default-held.field-0 c.in-Ok.ensures (ap held_state c.in_default-held.is)
+pub returns-in_err-desk : goal.returns-in_err-desk
+returns-in_err-desk c = not_idle c.in-Ok.field-0-0 c.in-Ok.field-0-1 c.args.self.now.held c.in-Ok.ensures c.in_err-desk.ensures.held.1
 
 pub returns : goal.returns
 returns c =
-    let d = c.in-Loaded.desk in
+    let d = c.in_ok-desk.field-0.now in
     let T = desk_table d in
     let B = desk_book d in
-    let here : state_of c.args.self.now ≡ loaded T B = ap held_state c.in-Loaded.is in
+    let here : state_of c.args.self.now ≡ loaded T B = ap held_state c.in_ok-desk.ensures.held in
     let e = sym c.if-not-counts.ensures in
     record {
       answer = sweep_answer T B c.args.count c.sweep.result e c.sweep.ensures.made ∙ ap (λ (S : State). answer S (sweeping c.args.count)) (sym here);

@@ -1,48 +1,20 @@
-use Rattle.std.proofs.Common.{◌≡◌, ◌^◌, ◌<◌, ◌≤◌, pos, ◌-ℤ◌, ◌≤ℤ◌, ◌<ℤ◌, ◌∙◌, arith, w64, SFits, to_z, of_z}
-use lib.Signed.{quot_z, rem_z}
-use Rattle.std.proofs.lemmas.Int.{ints}
+use Rattle.std.proofs.Common.{ℤ, ap, ◌∙◌, arith, w64}
+use Rattle.std.proofs.lemmas.Int.{ints, to_z-of_z}
 use Rattle.horizon.specs.Means.{round_down}
-use Rattle.horizon.specs.Ring.{lin}
-use Rattle.horizon.specs.Rounding.{down_none}
-use Rattle.horizon.proofs.Quotients.{down_less, down_same, down_fits, quotient_fits, machine_quotient, machine_remainder}
+use Rattle.horizon.proofs.Quotients.{down_less, down_same, down_least}
 use Rattle.horizon.proofs.side.LowerSideSide.round.Goals as goal
 
--- the quotient that the machine holds, and that one down it is the rounded number; both fit
-stepped : (c : goal.Then-total-divisor-lt0)
-    → (to_z w64 (of_z w64 (quot_z (to_z w64 (of_z w64 c.args.total)) (to_z w64 (of_z w64 c.from-divisor.result)))) ≡ quot_z c.args.total (pos c.args.denominator))
-    × (quot_z c.args.total (pos c.args.denominator) -ℤ pos 1 ≡ round_down c.args.total c.args.denominator)
-    × SFits w64 (quot_z c.args.total (pos c.args.denominator))
-    × SFits w64 (round_down c.args.total c.args.denominator)
-stepped c =
-    let z = c.args.total in
-    let W = c.args.denominator in
-    let positive : 1 ≤ W = let n = c.if-denominator-eq0.false in omega arith in
-    let small : W < 2 ^ 32 = let f = c.ranges.denominator.fits in omega arith in
-    let r = machine_remainder z c.from-divisor.result W c.ranges.total c.from-divisor.ensures small in
-    let t = c.if-total-divisor-lt0.true in
-    let off : rem_z z (pos W) <ℤ pos 0 = omega (arith, lin) in (
-      machine_quotient z c.from-divisor.result W c.ranges.total c.from-divisor.ensures small,
-      down_less z W positive off,
-      quotient_fits z W c.ranges.total,
-      down_fits z W positive c.ranges.total,
-    )
+pub returns-then-rest-lt0 : goal.returns-then-rest-lt0
+returns-then-rest-lt0 c =
+    let d = c.divided-whole.ensures in
+    let t = c.if-rest-lt0.true in
+    let m = down_less _ c.args.denominator _ _ d.zero d.whole d.rest (omega (arith, ints)) ∙ ap (λ (z : ℤ). round_down z c.args.denominator) (to_z-of_z w64 c.args.total c.ranges.total) in
+    let f = down_least c.args.total c.args.denominator c.ranges.total in
+    omega (arith, ints)
 
-pub returns-then-denominator-eq0 : goal.returns-then-denominator-eq0
-returns-then-denominator-eq0 c = down_none c.args.total c.args.denominator c.if-denominator-eq0.true
-
-pub overflow_sub-result : goal.overflow_sub-result
-overflow_sub-result c = let k = stepped c in let q = k.0 in let m = k.1 in let f = k.2 in let g = k.3 in omega (arith, ints)
-
-pub returns-then-total-divisor-lt0 : goal.returns-then-total-divisor-lt0
-returns-then-total-divisor-lt0 c = let k = stepped c in let q = k.0 in let m = k.1 in let f = k.2 in let g = k.3 in omega (arith, ints)
-
-pub returns-else-total-divisor-lt0 : goal.returns-else-total-divisor-lt0
-returns-else-total-divisor-lt0 c =
-    let z = c.args.total in
-    let W = c.args.denominator in
-    let positive : 1 ≤ W = let n = c.if-denominator-eq0.false in omega arith in
-    let small : W < 2 ^ 32 = let f = c.ranges.denominator.fits in omega arith in
-    let r = machine_remainder z c.from-divisor.result W c.ranges.total c.from-divisor.ensures small in
-    let t = c.if-total-divisor-lt0.false in
-    let exact : pos 0 ≤ℤ rem_z z (pos W) = omega (arith, lin) in
-    machine_quotient z c.from-divisor.result W c.ranges.total c.from-divisor.ensures small ∙ down_same z W positive exact
+pub returns-else-rest-lt0 : goal.returns-else-rest-lt0
+returns-else-rest-lt0 c =
+    let d = c.divided-whole.ensures in
+    let t = c.if-rest-lt0.false in
+    let m = down_same _ c.args.denominator _ _ d.zero d.whole d.rest (omega (arith, ints)) ∙ ap (λ (z : ℤ). round_down z c.args.denominator) (to_z-of_z w64 c.args.total c.ranges.total) in
+    omega (arith, ints)

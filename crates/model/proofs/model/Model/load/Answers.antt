@@ -1,11 +1,16 @@
-use Rattle.std.proofs.Common.{ℕ, Err, vec_items, sym, ap, ◌∙◌, w32, SFits, rules}
+use Rattle.std.proofs.Common.{unwrap_or, pos, Err, vec_items, sym, ap, ◌∙◌, subst, arith, w32, SFits, rules}
+use Rattle.std.specs.Int.{int_min, int_max}
+use Rattle.std.specs.List.{reduce}
 use Rattle.std.proofs.lemmas.Result.{err_from_is_err_and}
 use Rattle.std.proofs.lemmas.Int.{to_z-of_z}
 use Rattle.table.specs.Table.{Table}
 use Rattle.table.specs.Walk.{fault_of}
-use Rattle.model.specs.Flat.{flat_table}
+use Rattle.model.specs.Unbroken.{Unbroken}
+use Rattle.model.proofs.Unbroken.{lawful_unbroken}
 use Rattle.model.proofs.Loading.{verdict_ok, want_of_memory}
-use Rattle.model.proofs.Copies.{copied_table}
+use Rattle.model.proofs.Copies.{copied_rows}
+use Rattle.model.specs.Rewards.{rewards}
+use Rattle.model.proofs.Extremes.{some_of, some_reward, least_copied, largest_copied}
 use Rattle.model.proofs.model.Model.load.Goals as goal
 
 pub copy_states-requires : goal.copy_states-requires
@@ -14,27 +19,61 @@ copy_states-requires g c =
     let e = c.in_ok-check.ensures in
     e.law.lawful.0 (verdict_ok (fault_of T) (sym e.decides))
 
-pub returns-in_err-states : goal.returns-in_err-states
-returns-in_err-states g c =
+pub returns-in_err-rows : goal.returns-in_err-rows
+returns-in_err-rows g c =
     let T : Table = g.S.Source.table c.args.source.now in
-    let p = err_from_is_err_and c.from_residual-in_err-states.result c.from_residual-in_err-states.ensures.1 in
+    let p = err_from_is_err_and c.from_residual-in_err-rows.result c.from_residual-in_err-rows.ensures.1 in
     let e = c.in_ok-check.ensures in
-    want_of_memory T c.from_residual-in_err-states.result (p.1 ∙ ap Err (p.2 ∙ c.in_err-states.ensures))
+    want_of_memory T c.from_residual-in_err-rows.result (p.1 ∙ ap Err (p.2 ∙ c.in_err-rows.ensures))
     (verdict_ok (fault_of T) (sym e.decides))
+
+pub invariant_of-result : goal.invariant_of-result
+invariant_of-result g c =
+    let T : Table = g.S.Source.table c.args.source.now in
+    let e = c.in_ok-check.ensures in
+    let rows = c.in_ok-rows.rows in
+    let copied = c.in_ok-rows.ensures in
+    let law = e.law.lawful.0 (verdict_ok (fault_of T) (sym e.decides)) in
+    let size = copied.1.rows.size in
+    let most = law.states.1 in
+    let long = rows.states.ok.0 in
+    let some = some_reward T law (vec_items rows.states) (vec_items rows.choices) (vec_items rows.branches) copied.1.rows in
+    let f₁ : SFits w32 c.unwrap_or-least.result = search rules in
+    let f₂ : SFits w32 c.unwrap_or-largest.result = search rules in
+    record {
+      few = omega arith;
+      lawful = subst Unbroken
+          (sym (copied_rows T law copied.1.outside (vec_items rows.states) (vec_items rows.choices) (vec_items rows.branches) copied.1.rows
+          rows.denominator copied.0))
+          (lawful_unbroken T law);
+      least_is = simp to_z-of_z
+          (some_of int_min (rewards (vec_items rows.choices)) c.unwrap_or-least.result some
+          (c.unwrap_or-least.ensures
+          ∙ ap (λ o. unwrap_or o (pos 0)) (c.least_reward.ensures ∙ ap (λ xs. reduce int_min (rewards xs)) c.deref.ensures.value)));
+      largest_is = simp to_z-of_z
+          (some_of int_max (rewards (vec_items rows.choices)) c.unwrap_or-largest.result some
+          (c.unwrap_or-largest.ensures
+          ∙ ap (λ o. unwrap_or o (pos 0)) (c.largest_reward.ensures ∙ ap (λ xs. reduce int_max (rewards xs)) c.deref-2.ensures.value)));
+    }
 
 pub returns : goal.returns
 returns g c =
     let T : Table = g.S.Source.table c.args.source.now in
     let e = c.in_ok-check.ensures in
-    let rows = c.in_ok-states.field-0 in
-    let copied = c.in_ok-states.ensures in
-    let f₁ : SFits w32 c.extremes-least.result.0 = search rules in
-    let f₂ : SFits w32 c.extremes-least.result.1 = search rules in
+    let rows = c.in_ok-rows.rows in
+    let copied = c.in_ok-rows.ensures in
+    let law = e.law.lawful.0 (verdict_ok (fault_of T) (sym e.decides)) in
+    let f₁ : SFits w32 c.unwrap_or-least.result = search rules in
+    let f₂ : SFits w32 c.unwrap_or-largest.result = search rules in
     record {
-      lawful = e.law.lawful.0 (verdict_ok (fault_of T) (sym e.decides));
-      same =
-          ap (λ (d : ℕ). flat_table d (vec_items rows.states) (vec_items rows.choices) (vec_items rows.branches)) c.denominator.ensures
-          ∙ copied_table T copied.outside (vec_items rows.states) (vec_items rows.choices) (vec_items rows.branches) copied.rows;
-      least = simp to_z-of_z c.extremes-least.ensures.least;
-      largest = simp to_z-of_z c.extremes-least.ensures.largest;
+      lawful = law;
+      same = copied_rows T law copied.1.outside (vec_items rows.states) (vec_items rows.choices) (vec_items rows.branches) copied.1.rows rows.denominator copied.0;
+      least = simp to_z-of_z
+          (least_copied T law (vec_items rows.states) (vec_items rows.choices) (vec_items rows.branches) copied.1.rows c.unwrap_or-least.result
+          (c.unwrap_or-least.ensures
+          ∙ ap (λ o. unwrap_or o (pos 0)) (c.least_reward.ensures ∙ ap (λ xs. reduce int_min (rewards xs)) c.deref.ensures.value)));
+      largest = simp to_z-of_z
+          (largest_copied T law (vec_items rows.states) (vec_items rows.choices) (vec_items rows.branches) copied.1.rows c.unwrap_or-largest.result
+          (c.unwrap_or-largest.ensures
+          ∙ ap (λ o. unwrap_or o (pos 0)) (c.largest_reward.ensures ∙ ap (λ xs. reduce int_max (rewards xs)) c.deref-2.ensures.value)));
     }

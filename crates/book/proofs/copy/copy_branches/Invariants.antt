@@ -1,9 +1,0 @@
-use Rattle.std.proofs.Common.{◌≡◌, ◌++◌, map, vec_items}
-use Rattle.std.specs.List.{range_with_len}
-use Rattle.book.proofs.copy.copy_branches.Given as goal
-
--- the branches so far have been added
-abbrev pub invariant-loop-branch : goal.invariant-loop-branch
-invariant-loop-branch g l =
-    vec_items l.branches
-    ≡ vec_items l.initial.branches ++ map ((g.S.Source.table l.source).branch l.state l.choice) (range_with_len 0 l.branch)

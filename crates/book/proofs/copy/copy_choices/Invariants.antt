@@ -1,9 +1,0 @@
-use Rattle.std.proofs.Common.{vec_items}
-use Rattle.book.specs.Copied.{ChoicesCopied}
-use Rattle.book.proofs.copy.copy_choices.Given as goal
-
--- the choices so far have been added
-abbrev pub invariant-loop-choice : goal.invariant-loop-choice
-invariant-loop-choice g l =
-    ChoicesCopied (g.S.Source.table l.source) l.state l.choice
-    (vec_items l.initial.choices) (vec_items l.choices) (vec_items l.initial.branches) (vec_items l.branches)

@@ -1,0 +1,92 @@
+-- What chains over the numbers below a count give.
+use Rattle.std.proofs.Common.{◌≡◌, ℕ, zero, suc, ◌+◌, ◌*◌, ◌<◌, ◌≤◌, Bool, true, false, ◌&&◌, ◌||◌, List, [], ◌∷◌, ◌++◌, length, get_or, unwrap_or, Some, None, Option, MatchOption, sym, refl, ap, ◌∙◌, ap₂, arith}
+use Rattle.std.specs.List.{range_with_len, list_any, list_all, sum_by, AllWithin, HoldsAt}
+use Rattle.std.proofs.lemmas.List.Folds.{list_any-append, list_all-append}
+use Rattle.std.proofs.lemmas.List.FromFn.{length-range_with_len, get_or-range_with_len}
+use Rattle.std.proofs.lemmas.List.Sums.{sum_by-append}
+use Rattle.table.specs.Sums.{sum_n}
+use Rattle.table.specs.Table.{Table}
+use Rattle.table.specs.Limits.{Lawful}
+use Rattle.components.specs.Below.{any, every, first}
+use Rattle.components.proofs.Labels.{first_is}
+
+-- one more number
+counted_more : (a n : ℕ) → range_with_len a (suc n) ≡ range_with_len a n ++ ((a + n) ∷ [])
+counted_more a zero = let e : a ≡ a + 0 = omega arith in ap (λ (x : ℕ). x ∷ []) e
+counted_more a (suc n) =
+    let e : (a + 1) + n ≡ a + suc n = omega arith in
+    ap (λ (xs : List ℕ). a ∷ xs) (counted_more (a + 1) n ∙ ap (λ (x : ℕ). range_with_len (a + 1) n ++ (x ∷ [])) e)
+
+or_false : (x : Bool) → (x || false) ≡ x
+or_false true = refl
+or_false false = refl
+
+and_true : (x : Bool) → (x && true) ≡ x
+and_true true = refl
+and_true false = refl
+
+pub any_counted : (n : ℕ) (p : ℕ → Bool) → list_any p (range_with_len 0 n) ≡ any n p
+any_counted zero p = refl
+any_counted (suc n) p =
+    let e : 0 + n ≡ n = omega arith in
+    ap (list_any p) (counted_more 0 n) ∙ list_any-append p (range_with_len 0 n) ((0 + n) ∷ [])
+    ∙ ap₂ (λ (x y : Bool). x || y) (any_counted n p) (or_false (p (0 + n)) ∙ ap p e)
+
+pub every_counted : (n : ℕ) (p : ℕ → Bool) → list_all p (range_with_len 0 n) ≡ every n p
+every_counted zero p = refl
+every_counted (suc n) p =
+    let e : 0 + n ≡ n = omega arith in
+    ap (list_all p) (counted_more 0 n) ∙ list_all-append p (range_with_len 0 n) ((0 + n) ∷ [])
+    ∙ ap₂ (λ (x y : Bool). x && y) (every_counted n p) (and_true (p (0 + n)) ∙ ap p e)
+
+pub sum_counted : (n : ℕ) (f : ℕ → ℕ) → sum_by f (range_with_len 0 n) ≡ sum_n n f
+sum_counted zero f = refl
+sum_counted (suc n) f =
+    let e : 0 + n ≡ n = omega arith in
+    let q : 0 + f (0 + n) ≡ f n = omega (arith, ap f e) in
+    ap (sum_by f) (counted_more 0 n) ∙ sum_by-append f (range_with_len 0 n) ((0 + n) ∷ [])
+    ∙ ap₂ (λ (x y : ℕ). x + y) (sum_counted n f) q
+
+-- a table has at most 16 choices to a state
+few_choices : (T : Table) → Lawful T → (n : ℕ) → n ≤ T.states → sum_n n T.choices ≤ 16 * n
+few_choices T law zero h = omega arith
+few_choices T law (suc n) h =
+    let l = few_choices T law n (omega arith) in
+    let few = (law.choices n (omega arith)).1 in
+    omega arith
+
+pub few_counted : (T : Table) → Lawful T → (n : ℕ) → n ≡ T.states → sum_by T.choices (range_with_len 0 n) < 18446744073709551616
+few_counted T law n e =
+    let s = sum_counted n T.choices in
+    let l = few_choices T law n (omega arith) in
+    let most = law.states.1 in
+    omega arith
+
+-- the first of the numbers below s that passes, or s, which does
+pub lowest_found : (n s : ℕ) (p : ℕ → Bool) (r : Option ℕ) → s < n → p s ≡ true
+    → MatchOption r (AllWithin (λ x. p x ≡ false) (range_with_len 0 s) 0 (length (range_with_len 0 s)))
+    (λ x. (p x ≡ true) × (i : ℕ) × (i < length (range_with_len 0 s)) × HoldsAt (λ y. y ≡ x) (range_with_len 0 s) i
+    × AllWithin (λ y. p y ≡ false) (range_with_len 0 s) 0 i)
+    → unwrap_or r s ≡ first n p
+lowest_found n s p r h e w = at r w
+  where
+    long : length (range_with_len 0 s) ≡ s
+    long = length-range_with_len 0 s
+
+    here : (i : ℕ) → i < s → get_or (range_with_len 0 s) i 0 ≡ i
+    here i l = let z : 0 + i ≡ i = omega arith in get_or-range_with_len 0 s i 0 l ∙ z
+
+    before : (k : ℕ) → k ≤ s → AllWithin (λ x. p x ≡ false) (range_with_len 0 s) 0 k → (j : ℕ) → j < k → p j ≡ false
+    before k l all j m = ap p (sym (here j (omega arith))) ∙ all j 0 (omega arith) m
+
+    at : (r : Option ℕ)
+        → MatchOption r (AllWithin (λ x. p x ≡ false) (range_with_len 0 s) 0 (length (range_with_len 0 s)))
+        (λ x. (p x ≡ true) × (i : ℕ) × (i < length (range_with_len 0 s)) × HoldsAt (λ y. y ≡ x) (range_with_len 0 s) i
+        × AllWithin (λ y. p y ≡ false) (range_with_len 0 s) 0 i)
+        → unwrap_or r s ≡ first n p
+    at None w = sym (first_is n p s h e (λ j l. before (length (range_with_len 0 s)) (omega (arith, long)) w j (omega (arith, long))))
+    at (Some x) w =
+        let i : ℕ = w.1 in
+        let l : i < s = omega (arith, long, w.2) in
+        let q : i ≡ x = sym (here i l) ∙ w.3 0 in
+        sym (first_is n p x (omega arith) w.0 (λ j m. before i (omega arith) w.4 j (omega arith)))

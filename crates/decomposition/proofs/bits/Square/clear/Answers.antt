@@ -1,0 +1,5 @@
+use Rattle.decomposition.proofs.Marked.{cleared}
+use Rattle.decomposition.proofs.bits.Square.clear.Goals as goal
+
+pub returns : goal.returns
+returns c = cleared _ c.fill.new.self.items (c.fill.ensures.items (λ y e. e))

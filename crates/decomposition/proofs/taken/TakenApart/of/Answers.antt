@@ -1,0 +1,22 @@
+use Rattle.std.proofs.Common.{◌∙◌}
+use Rattle.table.specs.Table.{Table}
+use Rattle.components.specs.Inside.{inside}
+use Rattle.model.specs.Held.{table_of}
+use Rattle.model.proofs.Unbroken.{model_lawful}
+use Rattle.decomposition.specs.Marking.{flag_at}
+use Rattle.decomposition.proofs.Decomposing.{all_set}
+use Rattle.decomposition.proofs.Drops.{reach_same}
+use Rattle.decomposition.proofs.taken.TakenApart.of.Goals as goal
+
+pub settle-requires : goal.settle-requires
+settle-requires c = all_set (table_of c.args.model.now) (model_lawful c.args.model.now) _ c.in_ok-kept.ensures
+
+pub invariant_of-result : goal.invariant_of-result
+invariant_of-result c =
+    let T : Table = table_of c.args.model.now in
+    record {
+      kept_is = c.settle.ensures;
+      reached = λ s t h k.
+          c.mark_reach.ensures s t h k
+          ∙ reach_same T (model_lawful c.args.model.now) (flag_at c.settle.new.kept.flags.items) (inside T) c.settle.ensures s t h;
+    }

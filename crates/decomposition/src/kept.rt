@@ -1,0 +1,61 @@
+ghost use Rattle.std.specs.Prelude.{◌≡◌, ◌+◌, ◌*◌, ◌<◌, true, false, length, take, replicate, IfOk, slice_set};
+ghost use Rattle.decomposition.specs.Marking.{flag_at};
+
+use std::alloc::{AllocError, Global};
+
+const ALL_FLAGS: usize = 4096;
+
+// How many flags each state has.
+pub(crate) const MOST_CHOICES: u32 = 16;
+
+// The place of a choice among the flags.
+pub(crate) fn place(state: u32, choice: u32) -> usize
+    ensures { result ≡ 16 * state + choice }
+{
+    MOST_CHOICES as usize * state as usize + choice as usize
+}
+
+// A set of choices, by a flag for each: 16 to a state, of 256 states.
+#[derive(Drop)]
+pub(crate) struct Kept {
+    pub(crate) flags: Vec<bool>,
+    ghost size: { length flags.items ≡ 4096 },
+}
+
+impl Kept {
+    // All choices.
+    pub(crate) fn all(heap: Global) -> Result<Kept, AllocError>
+        ensures { IfOk result (λ kept. kept.flags.items ≡ replicate 4096 true) }
+    {
+        Ok(Kept {
+            flags: vec![in heap; true; ALL_FLAGS]?,
+        })
+    }
+
+    // Whether a choice is in the set.
+    pub(crate) fn has(&self, state: u32, choice: u32) -> bool
+        ensures { result ≡ flag_at self.now.flags.items state choice }
+    {
+        self.flags
+            .get(place(state, choice))
+            .copied()
+            .unwrap_or(false)
+    }
+
+    // Takes a choice out of the set.
+    pub(crate) fn remove(&mut self, state: u32, choice: u32)
+        requires state { state < 256 }
+        requires choice { choice < 16 }
+        ensures { self.new.flags.items ≡ slice_set self.old.flags.items (16 * state + choice) false }
+    {
+        self.flags[place(state, choice)] = false;
+    }
+
+    // The flags of the first states.
+    pub(crate) fn of_states(&self, heap: Global, states: u32) -> Result<Vec<bool>, AllocError>
+        requires { states < 257 }
+        ensures { IfOk result (λ flags. flags.items ≡ take (16 * states) self.now.flags.items) }
+    {
+        self.flags[..place(states, 0)].to_vec(heap)
+    }
+}

@@ -1,0 +1,41 @@
+use decomposition::Parts;
+use model::Model;
+use samples::{Weights, chain, exits, export, largest};
+use sources::Band;
+use std::test::Fail;
+use table::{Fault, check};
+
+// Each large table keeps all limits, with rewards and without.
+#[test]
+fn large_tables_are_lawful(rt: HostRuntime) -> Result<(), Fail> {
+    let heap = rt.alloc();
+    assert_eq!(rt; check(&largest(heap, 0, Weights::Even)?), Ok(()));
+    assert_eq!(rt; check(&largest(heap, 10_000, Weights::Uneven)?), Ok(()));
+    assert_eq!(rt; check(&exits(heap, 10_000, Weights::Uneven)?), Ok(()));
+    assert_eq!(rt; check(&chain(heap, 10_000)?), Ok(()));
+    Ok(())
+}
+
+#[test]
+fn the_export_is_not(rt: HostRuntime) {
+    let found = check(&export());
+    assert_eq!(rt;
+        found,
+        Err(Fault::Sum {
+            state: 3,
+            choice: 0
+        })
+    );
+}
+
+// A band is one component of all its states.
+#[test]
+fn a_model_is_taken_apart(rt: HostRuntime) -> Result<(), Fail> {
+    let heap = rt.alloc();
+    let model = Model::load(heap, &Band::new(2, 5, 40))?;
+    let parts = Parts::of(heap, &model)?;
+    assert_eq!(rt; (parts.nodes(), parts.components()), (1, 1));
+    assert_eq!(rt; (parts.node_of(4), parts.component_at(0)), (0, Some(0)));
+    assert_eq!(rt; parts.is_inside(4, 1), true);
+    Ok(())
+}
