@@ -5,7 +5,6 @@ use Rattle.components.specs.Nodes.{node_of}
 use Rattle.rules.specs.Choosing.{at_z}
 use Rattle.rules.specs.Setting.{setting_of}
 use Rattle.rules.specs.Candidates.{mean_of}
-use Rattle.rules.specs.Sweep.{over_choices}
 use Rattle.sources.specs.declared.list.ChoiceRow.{ChoiceRow}
 use Rattle.book.specs.declared.layout.Layout.{Layout}
 use Rattle.book.specs.Layouts.{denominator_of, layout_table, choice_of}
@@ -64,11 +63,3 @@ loop-choice-preserved g c =
       | else-not-is_inside w ↦ w.best-is
           ∙ inside_more M means s i c.args.best c.loop-choice.best c.loop-choice.invariant (sym c.is_inside.ensures ∙ w.if-not-is_inside.false)
     ]
-
-pub returns : goal.returns
-returns g c =
-    let T = layout_table c.args.layout.now in
-    let n = c.choices-choice-end.ensures in
-    let e : c.loop-choice.choice ≡ T.choices c.args.state = omega arith in
-    c.loop-choice.invariant
-    ∙ ap (λ (k : ℕ). over_choices (setting_of T) (mean_of (setting_of T) g.S.Side.rounds c.args.values.now) c.args.state k c.args.best) e

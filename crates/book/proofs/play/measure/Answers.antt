@@ -126,27 +126,9 @@ loop-state-preserved c =
     ] in
     (s + 1, x.left, omega (arith, x.ends, w.2), x.rest, new.0, new.1)
 
-pub invariant_of-marked : goal.invariant_of-marked
-invariant_of-marked c =
-    let n = c.states-states.ensures.count in
-    let r = c.requires.room in
-    let long = still_long c.fill.new.self c.args.marks.now c.states-states.result (omega arith) c.fill.ensures.len in
-    let z = length-set (c.fill.new.self ++ drop c.states-states.result c.args.marks.now) c.args.target 0 in
-    record { room = omega (arith, c.loop-state.auto.marks, c.loop-round.auto.marks, z, long) }
-
 pub fresh-requires : goal.fresh-requires
 fresh-requires c =
     record { known = (member_of (layout_table c.args.layout.now) c.args.node c.members_of-members.result.now c.members_of-members.ensures c.loop-state.state-index (omega arith)).0 }
-
-pub bounds-marks-state : goal.bounds-marks-state
-bounds-marks-state c =
-    let n = c.states-states.ensures.count in
-    let r = c.requires.room in
-    let long = still_long c.fill.new.self c.args.marks.now c.states-states.result (omega arith) c.fill.ensures.len in
-    let z = length-set (c.fill.new.self ++ drop c.states-states.result c.args.marks.now) c.args.target 0 in
-    let T : Table = layout_table c.args.layout.now in
-    let m = member_of T c.args.node c.members_of-members.result.now c.members_of-members.ensures c.loop-state.state-index (omega arith) in
-    omega (arith, m.0, c.loop-state.auto.marks, c.loop-round.auto.marks, z, long)
 
 pub loop-round-preserved : goal.loop-round-preserved
 loop-round-preserved c =

@@ -35,18 +35,6 @@ invariant_of-vector c =
       capped = kept_capped T b K w c.deref.ensures.value;
     }
 
-pub survey-found-requires : goal.survey-found-requires
-survey-found-requires c =
-    let b : Book = c.args.book.now in
-    let K = c.requires.kept in
-    record {
-      component = c.requires.component;
-      room = (
-        ap (λ (l : List ℤ). length l) c.deref_mut.ensures.value ∙ sym b.halfway.ok.0 ∙ K.halfway,
-        ap (λ (l : List ℕ). length l) c.deref_mut-2.ensures.value ∙ sym b.marks.ok.0 ∙ K.marks,
-      );
-    }
-
 pub apart-held-requires : goal.apart-held-requires
 apart-held-requires c =
     let f : Layout = c.args.layout.now in

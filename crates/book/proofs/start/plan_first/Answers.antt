@@ -1,9 +1,7 @@
-use Rattle.std.proofs.Common.{ℕ, ◌<◌, List, length, arith}
+use Rattle.std.proofs.Common.{arith}
 use Rattle.std.proofs.lemmas.List.FromFn.{fill_by_all}
-use Rattle.std.proofs.lemmas.List.Edits.{fill_by_more}
 use Rattle.table.specs.Table.{Table}
 use Rattle.components.specs.Nodes.{nodes}
-use Rattle.rules.specs.declared.exit.Exit.{Exit}
 use Rattle.rules.specs.declared.exit.Exit.TheVariants.{Stay}
 use Rattle.book.specs.Layouts.{layout_table}
 use Rattle.book.specs.Starts.{first_exit}
@@ -13,15 +11,6 @@ use Rattle.book.proofs.start.plan_first.Goals as goal
 pub overflow_cast-node : goal.overflow_cast-node
 overflow_cast-node c =
     omega (arith, nodes_few c.args.layout.now, c.requires.size, c.loop-node.auto.plan, c.loop-node-test.true)
-
-pub loop-node-preserved : goal.loop-node-preserved
-loop-node-preserved c =
-    let T : Table = layout_table c.args.layout.now in
-    let xs : List Exit = c.loop-node.plan in
-    let n : ℕ = c.loop-node.node in
-    let l : n < length xs = omega arith in
-    let w = fill_by_more (first_exit T) xs n Stay l c.loop-node.invariant in
-    rw c.first_exit.ensures w
 
 pub returns : goal.returns
 returns c =

@@ -1,4 +1,4 @@
-use Rattle.std.proofs.Common.{◌≡◌, vec_items, ◌∙◌, arith}
+use Rattle.std.proofs.Common.{vec_items, ◌∙◌, arith}
 use Rattle.table.specs.Table.{Table}
 use Rattle.model.proofs.Copies.{states_more}
 use Rattle.model.proofs.copy.copy_states.Goals as goal
@@ -13,9 +13,3 @@ loop-state-preserved g c =
     (c.requires.choices c.loop-state.state (omega arith)).1
     c.in_ok-push.ensures.items
     (c.len-first.ensures ∙ c.loop-state.choices.ok.0) c.choices-count.ensures
-
-pub returns : goal.returns
-returns g c =
-    let T : Table = g.S.Source.table c.args.source.now in
-    let e : c.loop-state.state ≡ T.states = omega arith in
-    (c.denominator.ensures, record { rows = rw e at c.loop-state.invariant; outside = c.states-state-end.ensures.outside })

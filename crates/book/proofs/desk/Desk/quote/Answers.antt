@@ -19,9 +19,6 @@ returns-then-state-states c =
     let z : SmallBound (pos 0) = (omega (arith, lin), omega (arith, lin)) in
     record { bounds = no_bounds (desk_table d) (desk_book d) c.args.state h; small = (z, z) }
 
-pub quoted-requires : goal.quoted-requires
-quoted-requires c = omega (arith, c.states.ensures, c.if-state-states.false)
-
 pub returns : goal.returns
 returns c =
     let d = c.args.self.now in

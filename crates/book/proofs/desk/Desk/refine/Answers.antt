@@ -18,9 +18,6 @@ returns-then-component-components c =
 pub overflow_cast-component : goal.overflow_cast-component
 overflow_cast-component c = omega (arith, components_few c.args.self.now.layout, c.components.ensures, c.if-component-components.false)
 
-pub refine_steps-requires : goal.refine_steps-requires
-refine_steps-requires c = omega (arith, c.components.ensures, c.if-component-components.false)
-
 pub returns : goal.returns
 returns c =
     let d = c.args.self.now in

@@ -1,4 +1,4 @@
-use Rattle.std.proofs.Common.{◌≡◌, ℕ, ◌<◌, Bool, ◌&&◌, sym, refl, ap, ap₂, ◌∙◌, subst, arith}
+use Rattle.std.proofs.Common.{◌≡◌, ℕ, Bool, ◌&&◌, refl, ap, ap₂, ◌∙◌, arith}
 use Rattle.table.specs.Table.{Table}
 use Rattle.components.specs.Nodes.{nodes}
 use Rattle.rules.specs.Setting.{Setting, setting_of}
@@ -11,11 +11,6 @@ use Rattle.book.proofs.desk.Desk.sweep_once.Goals as goal
 
 pub loop-node-init : goal.loop-node-init
 loop-node-init c = (updates_none (setting_of (desk_table c.args.self.now)) (desk_book c.args.self.now), refl, refl)
-
-pub update_node-quiet-requires : goal.update_node-quiet-requires
-update_node-quiet-requires c =
-    let h : c.loop-node.node < nodes (desk_table c.args.self.now) = omega (arith, c.nodes-node-end.ensures.count, c.loop-node-test.true) in
-    subst (λ (T : Table). c.loop-node.node < nodes T) (sym c.loop-node.invariant.1) h
 
 pub loop-node-preserved : goal.loop-node-preserved
 loop-node-preserved c =

@@ -1,5 +1,4 @@
 use Rattle.std.proofs.Common.{◌≡◌, ℕ, Bool, true, ◌&&◌, eqb, List, sym, ap, ◌∙◌, arith}
-use Rattle.std.proofs.lemmas.Bool.{and_left}
 use Rattle.components.specs.Below.{any}
 use Rattle.components.specs.Inside.{inside}
 use Rattle.rules.specs.Choosing.{at}
@@ -35,9 +34,3 @@ returns-then-is_inside c =
     ∙ ap (λ (xs : List (ℕ × ℕ)). any row.count (λ b. eqb (at marks (place_at xs row.first b)) mark)) c.deref.ensures.value
     ∙ run_enters f s c.requires.known d c.requires.chosen marks mark
     ∙ sym (ap (λ (x : Bool). x && enters (layout_table f) (λ u. eqb (at marks u) mark) s d) i)
-
-pub returns-else-is_inside : goal.returns-else-is_inside
-returns-else-is_inside c =
-    let T = layout_table c.args.self.now.layout.now in
-    sym (and_left (inside T c.args.state c.args.choice) (enters T (λ u. eqb (at c.args.self.now.marks.now u) c.args.mark) c.args.state c.args.choice)
-    (sym c.is_inside.ensures ∙ c.if-is_inside.false))

@@ -1,13 +1,12 @@
-use Rattle.std.proofs.Common.{unwrap_or, pos, Err, vec_items, sym, ap, ◌∙◌, subst, arith, w32, SFits, rules}
+use Rattle.std.proofs.Common.{unwrap_or, pos, vec_items, sym, ap, ◌∙◌, subst, arith, w32, SFits, rules}
 use Rattle.std.specs.Int.{int_min, int_max}
 use Rattle.std.specs.List.{reduce}
-use Rattle.std.proofs.lemmas.Result.{err_from_is_err_and}
 use Rattle.std.proofs.lemmas.Int.{to_z-of_z}
 use Rattle.table.specs.Table.{Table}
 use Rattle.table.specs.Walk.{fault_of}
 use Rattle.model.specs.Unbroken.{Unbroken}
 use Rattle.model.proofs.Unbroken.{lawful_unbroken}
-use Rattle.model.proofs.Loading.{verdict_ok, want_of_memory}
+use Rattle.model.proofs.Loading.{verdict_ok}
 use Rattle.model.proofs.Copies.{copied_rows}
 use Rattle.model.specs.Rewards.{rewards}
 use Rattle.model.proofs.Extremes.{some_of, some_reward, least_copied, largest_copied}
@@ -18,14 +17,6 @@ copy_states-requires g c =
     let T : Table = g.S.Source.table c.args.source.now in
     let e = c.in_ok-check.ensures in
     e.law.lawful.0 (verdict_ok (fault_of T) (sym e.decides))
-
-pub returns-in_err-rows : goal.returns-in_err-rows
-returns-in_err-rows g c =
-    let T : Table = g.S.Source.table c.args.source.now in
-    let p = err_from_is_err_and c.from_residual-in_err-rows.result c.from_residual-in_err-rows.ensures.1 in
-    let e = c.in_ok-check.ensures in
-    want_of_memory T c.from_residual-in_err-rows.result (p.1 ∙ ap Err (p.2 ∙ c.in_err-rows.ensures))
-    (verdict_ok (fault_of T) (sym e.decides))
 
 pub invariant_of-result : goal.invariant_of-result
 invariant_of-result g c =
