@@ -1,28 +1,56 @@
 -- Distances grow by one with each round of marks.
-use Rattle.std.proofs.Common.{◌≡◌, ℕ, zero, suc, ◌+◌, ◌-◌, ◌<◌, ◌≤◌, Bool, true, false, cond, ◌&&◌, eqb, ltb, leb, List, length, set, sym, refl, ap, ◌∙◌, subst, ⊎_elim, arith}
+use Rattle.std.proofs.Common.{◌≡◌, ℕ, zero, suc, ◌+◌, ◌-◌, ◌<◌, ◌≤◌, Bool, true, false, cond, ◌&&◌, eqb, ltb, leb, Some, None, List, Option, length, set, sym, refl, ap, ◌∙◌, subst, ⊎_elim, arith}
+use Rattle.std.specs.Option.{is_some, unwrap_or, option_eq}
 use Rattle.std.proofs.lemmas.List.{get_or-set_same, get_or-set_other}
-use Rattle.std.proofs.lemmas.Bool.{cases_Bool, cases_eq, cases_lt, and_parts, and_from, and_left, or_cases, or_right, cond-true, cond-false, cond_both, eq-eqb, ne_eqb, eqb-true, lt-ltb, le-ltb, le-leb, lt-leb}
+use Rattle.std.proofs.lemmas.Bool.{cases_Bool, cases_eq, cases_lt, both_ways, and_parts, and_from, and_left, or_cases, or_right, cond-true, cond-false, cond_both, eq-eqb, ne_eqb, eqb-true, lt-ltb, le-ltb, le-leb, lt-leb}
 use Rattle.table.specs.Table.{Table, successor}
 use Rattle.table.specs.Limits.{Lawful}
 use Rattle.components.specs.Below.{first}
+use Rattle.components.specs.EndComponent.{Reaches, stays, steps}
 use Rattle.components.specs.Inside.{inside}
 use Rattle.components.specs.Nodes.{node_of}
 use Rattle.components.proofs.Below.{any_some, any_from, first_le}
 use Rattle.components.proofs.Labels.{first_same}
-use Rattle.rules.specs.Choosing.{at}
 use Rattle.rules.specs.Layers.{layer, level}
 use Rattle.rules.specs.Play.{enters, inward, distance, toward}
-use Rattle.rules.proofs.Nodes.{stays_node}
-use Rattle.book.specs.Plays.{first_into, Measured}
-use Rattle.book.proofs.Lists.{any_ext, first_most, first_hit}
+use Rattle.rules.proofs.Distances.{enters_mono}
+use Rattle.rules.proofs.Layers as layers
+use Rattle.rules.proofs.Nodes.{joined, stays_node}
+use Rattle.book.specs.Plays.{mark_at, has_mark, inside_into, first_into, Measured}
+use Rattle.book.proofs.Lists.{any_ext, first_hit}
 
--- the distance from s to t if it is at most k, and more than any distance if not
-abbrev pub distance_to : Table → ℕ → ℕ → ℕ → ℕ
-distance_to T t k s = cond (leb (distance T t s) k) (distance T t s) (T.states + 1)
+-- the distance from s to t if it is at most k
+abbrev pub distance_to : Table → ℕ → ℕ → ℕ → Option ℕ
+distance_to T t k s = cond (leb (distance T t s) k) (Some (distance T t s)) None
 
 -- the marks of the states of node v are distances to t: up to k + 1 for those below s, and up to k for the others
-abbrev pub Partly : Table → ℕ → ℕ → ℕ → ℕ → List ℕ → Type 0
-Partly T v t k s marks = (u : ℕ) → u < T.states → node_of T u ≡ v → at marks u ≡ distance_to T t (cond (ltb u s) (k + 1) k) u
+abbrev pub Partly : Table → ℕ → ℕ → ℕ → ℕ → List (Option ℕ) → Type 0
+Partly T v t k s distances = (u : ℕ) → u < T.states → node_of T u ≡ v → mark_at distances u ≡ distance_to T t (cond (ltb u s) (k + 1) k) u
+
+-- two marks of one state are the same
+pub one_mark : (o : Option ℕ) (a b : ℕ) → o ≡ Some a → o ≡ Some b → a ≡ b
+one_mark o a b p q = ap (λ (x : Option ℕ). unwrap_or x 0) (sym p ∙ q)
+
+-- and a state with a mark is not without one
+pub no_mark : (o : Option ℕ) (a : ℕ) → o ≡ Some a → o ≡ None → ⊥
+no_mark o a p q = both_ways (is_some o) (ap is_some q) (ap is_some p)
+
+-- what a test for a mark finds
+mark_is : (o : Option ℕ) (k : ℕ) → option_eq eqb o (Some k) ≡ true → o ≡ Some k
+mark_is None k e = absurd (both_ways false refl e)
+mark_is (Some a) k e = ap Some (eqb-true a k e)
+
+is_mark : (o : Option ℕ) (k : ℕ) → o ≡ Some k → option_eq eqb o (Some k) ≡ true
+is_mark o k q = ap (λ (x : Option ℕ). option_eq eqb x (Some k)) q ∙ eq-eqb k k refl
+
+-- what leads into a set leads into a larger one
+inward_mono : (T : Table) → Lawful T → (P Q : ℕ → Bool) → ((u : ℕ) → u < T.states → P u ≡ true → Q u ≡ true)
+    → (s : ℕ) → s < T.states → inward T P s ≡ true → inward T Q s ≡ true
+inward_mono T L P Q k s h e =
+    let x = any_some (T.choices s) (λ c. inside T s c && enters T P s c) e in
+    let w = and_parts (inside T s x.0) (enters T P s x.0) x.2 in
+    any_from (T.choices s) (λ c. inside T s c && enters T Q s c) x.0 x.1
+    (and_from (inside T s x.0) (enters T Q s x.0) w.0 (enters_mono T L P Q k s x.0 h x.1 w.1))
 
 module _ (T : Table) (L : Lawful T) (t : ℕ) where
   abbrev near : ℕ → ℕ → Bool
@@ -38,10 +66,6 @@ module _ (T : Table) (L : Lawful T) (t : ℕ) where
   unfolding distance level
   near_least k s e = first_le (suc T.states) (λ i. near i s) k e
 
-  pub distance_most : (s : ℕ) → distance T t s ≤ T.states + 1
-  unfolding distance level
-  distance_most s = let a = first_most (suc T.states) (λ i. near i s) in omega arith
-
   pub distance_here : (s : ℕ) → s ≡ t → distance T t s ≡ 0
   unfolding layer
   distance_here s q = let a = near_least 0 s (eq-eqb s t q) in omega arith
@@ -54,18 +78,34 @@ module _ (T : Table) (L : Lawful T) (t : ℕ) where
       (λ (q : distance T t s ≡ 0 → ⊥). omega arith)
       (cases_eq (distance T t s) 0)
 
+  -- a branch of an inside choice into a layer leads from the next layer
+  near_more : (k s c b : ℕ) → c < T.choices s → inside T s c ≡ true → b < T.branches s c → near k (successor T s c b) ≡ true → near (suc k) s ≡ true
+  unfolding layer
+  near_more k s c b h i l g =
+      or_right (near k s) (inward T (near k) s)
+      (any_from (T.choices s) (λ d. inside T s d && enters T (near k) s d) c h
+      (and_from (inside T s c) (enters T (near k) s c) i
+      (any_from (T.branches s c) (λ d. near k (successor T s c d)) b l g)))
+
   -- a branch of an inside choice leads one step nearer at most
   pub rise : (s c b : ℕ) → c < T.choices s → inside T s c ≡ true → b < T.branches s c
       → distance T t (successor T s c b) ≤ T.states → distance T t s ≤ suc (distance T t (successor T s c b))
-  unfolding layer
   rise s c b h i l e =
       let k = distance T t (successor T s c b) in
-      let g = near_at k (successor T s c b) refl e in
-      near_least (suc k) s
-      (or_right (near k s) (inward T (near k) s)
-      (any_from (T.choices s) (λ d. inside T s d && enters T (near k) s d) c h
-      (and_from (inside T s c) (enters T (near k) s c) i
-      (any_from (T.branches s c) (λ d. near k (successor T s c d)) b l g))))
+      near_least (suc k) s (near_more k s c b h i l (near_at k (successor T s c b) refl e))
+
+  -- what reaches t is in a layer
+  some_near : {s u : ℕ} → Reaches T (inside T) s u → u ≡ t → (k : ℕ) × (near k s ≡ true)
+  unfolding layer
+  some_near (stays {s = s}) q = (0, eq-eqb s t q)
+  some_near (steps {s = s} c b p i l r) q = let x = some_near r q in (suc x.0, near_more x.0 s c b p.choice i l x.1)
+
+  -- so no state of the node of t is further away than there are states
+  pub within : (s : ℕ) → s < T.states → t < T.states → node_of T s ≡ node_of T t → distance T t s ≤ T.states
+  unfolding distance
+  within s h l e =
+      let k = some_near (joined T L s t h l e) refl in
+      layers.level_low T.states (λ u. eqb u t) (inward T) (inward_mono T L) k.0 s h k.1
 
   -- a state k + 1 steps away has an inside choice with a branch to one k steps away
   pub fall : (s k : ℕ) → distance T t s ≡ k + 1 → k + 1 ≤ T.states
@@ -85,24 +125,24 @@ module _ (T : Table) (L : Lawful T) (t : ℕ) where
       (or_cases (near k s) (inward T (near k) s) g)
 
   -- what a mark says of the distance
-  value : (j u : ℕ) → distance T t u ≤ j → distance_to T t j u ≡ distance T t u
-  value j u h = cond-true (leb (distance T t u) j) (distance T t u) (T.states + 1) (le-leb (distance T t u) j h)
+  value : (j u : ℕ) → distance T t u ≤ j → distance_to T t j u ≡ Some (distance T t u)
+  value j u h = cond-true (leb (distance T t u) j) (Some (distance T t u)) None (le-leb (distance T t u) j h)
 
-  beyond : (j u : ℕ) → j < distance T t u → distance_to T t j u ≡ T.states + 1
-  beyond j u h = cond-false (leb (distance T t u) j) (distance T t u) (T.states + 1) (lt-leb (distance T t u) j h)
+  beyond : (j u : ℕ) → j < distance T t u → distance_to T t j u ≡ None
+  beyond j u h = cond-false (leb (distance T t u) j) (Some (distance T t u)) None (lt-leb (distance T t u) j h)
 
-  read : (j u k : ℕ) → distance_to T t j u ≡ k → k ≤ T.states → distance T t u ≡ k
-  read j u k e h =
+  read : (j u k : ℕ) → distance_to T t j u ≡ Some k → distance T t u ≡ k
+  read j u k e =
       ⊎_elim
-      (λ (l : j < distance T t u). let a = beyond j u l in absurd (omega arith))
-      (λ (l : distance T t u ≤ j). let a = value j u l in omega arith)
+      (λ (l : j < distance T t u). absurd (no_mark (distance_to T t j u) k e (beyond j u l)))
+      (λ (l : distance T t u ≤ j). one_mark (distance_to T t j u) (distance T t u) k (value j u l) e)
       (cases_lt j (distance T t u))
 
-  unread : (j u : ℕ) → T.states < distance_to T t j u → distance T t u ≤ T.states → j < distance T t u
-  unread j u e h =
+  unread : (j u : ℕ) → distance_to T t j u ≡ None → j < distance T t u
+  unread j u e =
       ⊎_elim
       (λ (l : j < distance T t u). l)
-      (λ (l : distance T t u ≤ j). let a = value j u l in absurd (omega arith))
+      (λ (l : distance T t u ≤ j). absurd (no_mark (distance_to T t j u) (distance T t u) (value j u l) e))
       (cases_lt j (distance T t u))
 
   reach : (u s k : ℕ) → k ≤ cond (ltb u s) (k + 1) k
@@ -135,46 +175,44 @@ module _ (T : Table) (L : Lawful T) (t : ℕ) where
       (cases_lt k (distance T t u))
 
   module _ (v : ℕ) where
-    pub starts : (marks : List ℕ) → T.states ≤ length marks → t < T.states
-        → ((u : ℕ) → u < T.states → at marks u ≡ T.states + 1) → Partly T v t 0 0 (set marks t 0)
-    starts marks h k all u l e =
+    pub starts : (distances : List (Option ℕ)) → T.states ≤ length distances → t < T.states
+        → ((u : ℕ) → u < T.states → node_of T u ≡ v → mark_at distances u ≡ None) → Partly T v t 0 0 (set distances t (Some 0))
+    starts distances h k all u l e =
         ⊎_elim
         (λ (q : u ≡ t).
         let z = distance_here u q in
-        let i : t < length marks = omega arith in
-        let a : at (set marks t 0) u ≡ 0 = rw q (get_or-set_same marks t 0 0 i) in
+        let i : t < length distances = omega arith in
+        let a : mark_at (set distances t (Some 0)) u ≡ Some 0 = rw q (get_or-set_same distances t (Some 0) None i) in
         let b = value (cond (ltb u 0) (0 + 1) 0) u (omega arith) in
-        a ∙ sym (b ∙ z))
+        a ∙ sym (b ∙ ap Some z))
         (λ (q : u ≡ t → ⊥).
         let z = distance_other u q in
-        let a : at (set marks t 0) u ≡ at marks u = get_or-set_other marks t u 0 0 q in
+        let a : mark_at (set distances t (Some 0)) u ≡ mark_at distances u = get_or-set_other distances t u (Some 0) None q in
         let j = ahead u 0 0 (omega arith) in
         let b = beyond (cond (ltb u 0) (0 + 1) 0) u (omega arith) in
-        a ∙ all u l ∙ sym b)
+        a ∙ all u l e ∙ sym b)
         (cases_eq u t)
 
     -- an unmarked state with a branch to one that is k steps away is k + 1 steps away
-    pub hit : (k s : ℕ) (marks : List ℕ) → Partly T v t k s marks → s < T.states → node_of T s ≡ v → k < T.states
-        → T.states < at marks s → first_into T marks k s < T.choices s → distance T t s ≡ k + 1
-    hit k s marks p h e l un f =
-        let P : ℕ → Bool = λ c. inside T s c && enters T (λ u. eqb (at marks u) k) s c in
-        let c : ℕ = first_into T marks k s in
+    pub hit : (k s : ℕ) (distances : List (Option ℕ)) → Partly T v t k s distances → s < T.states → node_of T s ≡ v → k < T.states
+        → mark_at distances s ≡ None → first_into T distances k s < T.choices s → distance T t s ≡ k + 1
+    hit k s distances p h e l un f =
+        let P : ℕ → Bool = inside_into T distances k s in
+        let c : ℕ = first_into T distances k s in
         let x : P c ≡ true = first_hit (T.choices s) P f in
-        let w = and_parts (inside T s c) (enters T (λ u. eqb (at marks u) k) s c) x in
-        let y = any_some (T.branches s c) (λ b. eqb (at marks (successor T s c b)) k) w.1 in
+        let w = and_parts (inside T s c) (enters T (has_mark distances k) s c) x in
+        let y = any_some (T.branches s c) (λ b. has_mark distances k (successor T s c b)) w.1 in
         let u : ℕ = successor T s c y.0 in
-        let a : at marks u ≡ k = eqb-true (at marks u) k y.2 in
         let m = p u (L.successors s c y.0 h f y.1) (stays_node T L s c y.0 w.0 y.1 ∙ e) in
-        let d : distance T t u ≡ k = read (cond (ltb u s) (k + 1) k) u k (sym m ∙ a) (omega arith) in
+        let d : distance T t u ≡ k = read (cond (ltb u s) (k + 1) k) u k (sym m ∙ mark_is (mark_at distances u) k y.2) in
         let r = rise s c y.0 f w.0 y.1 (omega arith) in
-        let o : T.states < distance_to T t (cond (ltb s s) (k + 1) k) s = subst (λ (z : ℕ). T.states < z) (p s h e) un in
-        let g = unread (cond (ltb s s) (k + 1) k) s o (omega arith) in
+        let g = unread (cond (ltb s s) (k + 1) k) s (sym (p s h e) ∙ un) in
         let i = reach s s k in
         omega arith
 
-    pub miss : (k s : ℕ) (marks : List ℕ) → Partly T v t k s marks → s < T.states → node_of T s ≡ v → k < T.states
-        → T.choices s ≤ first_into T marks k s → distance T t s ≡ k + 1 → ⊥
-    miss k s marks p h e l f d =
+    pub miss : (k s : ℕ) (distances : List (Option ℕ)) → Partly T v t k s distances → s < T.states → node_of T s ≡ v → k < T.states
+        → T.choices s ≤ first_into T distances k s → distance T t s ≡ k + 1 → ⊥
+    miss k s distances p h e l f d =
         let x = fall s k d (omega arith) in
         let c : ℕ = x.0 in
         let b : ℕ = x.3 in
@@ -182,42 +220,39 @@ module _ (T : Table) (L : Lawful T) (t : ℕ) where
         let m = p u (L.successors s c b h x.1 x.4) (stays_node T L s c b x.2 x.4 ∙ e) in
         let du : distance T t u ≡ k = x.5 in
         let i = reach u s k in
-        let a : at marks u ≡ k = m ∙ value (cond (ltb u s) (k + 1) k) u (omega arith) ∙ du in
-        let P : ℕ → Bool = λ c. inside T s c && enters T (λ u. eqb (at marks u) k) s c in
-        let q = first_le (T.choices s) P c
-        (and_from (inside T s c) (enters T (λ u. eqb (at marks u) k) s c) x.2
-        (any_from (T.branches s c) (λ b. eqb (at marks (successor T s c b)) k) b x.4 (eq-eqb (at marks u) k a))) in
+        let a : mark_at distances u ≡ Some k = m ∙ value (cond (ltb u s) (k + 1) k) u (omega arith) ∙ ap Some du in
+        let q = first_le (T.choices s) (inside_into T distances k s) c
+        (and_from (inside T s c) (enters T (has_mark distances k) s c) x.2
+        (any_from (T.branches s c) (λ b. has_mark distances k (successor T s c b)) b x.4 (is_mark (mark_at distances u) k a))) in
         let lc : c < T.choices s = x.1 in
         omega arith
 
-    -- a state that is marked already is nearer
-    pub nearer : (k s : ℕ) (marks : List ℕ) → Partly T v t k s marks → s < T.states → node_of T s ≡ v
-        → at marks s ≤ T.states → distance T t s ≡ k + 1 → k < T.states → ⊥
-    nearer k s marks p h e m d l =
+    -- a state that is one step further has no mark before its turn
+    pub unmarked : (k s : ℕ) (distances : List (Option ℕ)) → Partly T v t k s distances → s < T.states → node_of T s ≡ v
+        → distance T t s ≡ k + 1 → mark_at distances s ≡ None
+    unmarked k s distances p h e d =
         let j = ahead s s k (omega arith) in
-        let b = beyond (cond (ltb s s) (k + 1) k) s (omega arith) in
-        let q = p s h e in
-        omega arith
+        p s h e ∙ beyond (cond (ltb s s) (k + 1) k) s (omega arith)
 
-    pub marked : (k s : ℕ) (marks : List ℕ) → Partly T v t k s marks → s < T.states → T.states ≤ length marks
-        → distance T t s ≡ k + 1 → Partly T v t k (s + 1) (set marks s (k + 1))
-    marked k s marks p h m d u l e =
+    pub marked : (k s : ℕ) (distances : List (Option ℕ)) → Partly T v t k s distances → s < T.states → T.states ≤ length distances
+        → distance T t s ≡ k + 1 → Partly T v t k (s + 1) (set distances s (Some (k + 1)))
+    marked k s distances p h m d u l e =
         ⊎_elim
         (λ (q : u ≡ s).
-        let i : s < length marks = omega arith in
-        let a : at (set marks s (k + 1)) u ≡ k + 1 = rw q (get_or-set_same marks s (k + 1) 0 i) in
+        let i : s < length distances = omega arith in
+        let a : mark_at (set distances s (Some (k + 1))) u ≡ Some (k + 1) = rw q (get_or-set_same distances s (Some (k + 1)) None i) in
         let j = passed u (s + 1) k (omega arith) in
         let du : distance T t u ≡ k + 1 = rw q d in
         let b = value (cond (ltb u (s + 1)) (k + 1) k) u (omega arith) in
-        a ∙ sym (b ∙ du))
+        a ∙ sym (b ∙ ap Some du))
         (λ (q : u ≡ s → ⊥).
-        let a : at (set marks s (k + 1)) u ≡ at marks u = get_or-set_other marks s u (k + 1) 0 q in
+        let a : mark_at (set distances s (Some (k + 1))) u ≡ mark_at distances u = get_or-set_other distances s u (Some (k + 1)) None q in
         a ∙ p u l e ∙ ap (λ (j : ℕ). distance_to T t j u) (apart u s k q))
         (cases_eq u s)
 
-    pub kept : (k s : ℕ) (marks : List ℕ) → Partly T v t k s marks
-        → (node_of T s ≡ v → distance T t s ≡ k + 1 → ⊥) → Partly T v t k (s + 1) marks
-    kept k s marks p none u l e =
+    pub kept : (k s : ℕ) (distances : List (Option ℕ)) → Partly T v t k s distances
+        → (node_of T s ≡ v → distance T t s ≡ k + 1 → ⊥) → Partly T v t k (s + 1) distances
+    kept k s distances p none u l e =
         ⊎_elim
         (λ (q : u ≡ s).
         let nu : distance T t u ≡ k + 1 → ⊥ = λ d. none (ap (node_of T) (sym q) ∙ e) (ap (distance T t) (sym q) ∙ d) in
@@ -228,8 +263,9 @@ module _ (T : Table) (L : Lawful T) (t : ℕ) where
         (cases_eq u s)
 
     -- numbers that are no states of the node change nothing
-    pub skip : (k s n : ℕ) (marks : List ℕ) → Partly T v t k s marks → s ≤ n → ((u : ℕ) → s ≤ u → u < n → node_of T u ≡ v → ⊥) → Partly T v t k n marks
-    skip k s n marks p h none u l e =
+    pub skip : (k s n : ℕ) (distances : List (Option ℕ)) → Partly T v t k s distances → s ≤ n
+        → ((u : ℕ) → s ≤ u → u < n → node_of T u ≡ v → ⊥) → Partly T v t k n distances
+    skip k s n distances p h none u l e =
         p u l e
         ∙ ap (λ (j : ℕ). distance_to T t j u)
         (⊎_elim
@@ -241,8 +277,8 @@ module _ (T : Table) (L : Lawful T) (t : ℕ) where
         (cases_lt u n))
         (cases_lt u s))
 
-    pub next : (k : ℕ) (marks : List ℕ) → Partly T v t k T.states marks → Partly T v t (k + 1) 0 marks
-    next k marks p u l e =
+    pub next : (k : ℕ) (distances : List (Option ℕ)) → Partly T v t k T.states distances → Partly T v t (k + 1) 0 distances
+    next k distances p u l e =
         p u l e ∙ ap (λ (j : ℕ). distance_to T t j u) (passed u T.states k l ∙ sym (ahead u 0 (k + 1) (omega arith)))
 
     -- a distance that no state of the node has parts those below from none above
@@ -254,59 +290,49 @@ module _ (T : Table) (L : Lawful T) (t : ℕ) where
         gap k none i (successor T s x.0 x.3) (L.successors s x.0 x.3 h x.1 x.4)
         (stays_node T L s x.0 x.3 x.2 x.4 ∙ e) x.5 (omega arith)
 
-    pub done : (k : ℕ) (marks : List ℕ) → Partly T v t k T.states marks
-        → ((u : ℕ) → u < T.states → node_of T u ≡ v → distance T t u ≡ k + 1 → ⊥) → Measured T v t marks
-    done k marks p none s h e =
+    pub done : t < T.states → node_of T t ≡ v → (k : ℕ) (distances : List (Option ℕ)) → Partly T v t k T.states distances
+        → ((u : ℕ) → u < T.states → node_of T u ≡ v → distance T t u ≡ k + 1 → ⊥) → Measured T v t distances
+    done a b k distances p none s h e =
         let j = passed s T.states k h in
-        let m = distance_most s in
-        let q = p s h e in
+        let m = within s h a (e ∙ sym b) in
         ⊎_elim
-        (λ (l : k + 1 < distance T t s).
-        let b = beyond (cond (ltb s T.states) (k + 1) k) s (omega arith) in
-        ⊎_elim
-        (λ (g : T.states < distance T t s). omega arith)
-        (λ (g : distance T t s ≤ T.states). absurd (gap k none (distance T t s - (k + 1)) s h e (omega arith) (omega arith)))
-        (cases_lt T.states (distance T t s)))
-        (λ (l : distance T t s ≤ k + 1). q ∙ value (cond (ltb s T.states) (k + 1) k) s (omega arith))
+        (λ (l : k + 1 < distance T t s). absurd (gap k none (distance T t s - (k + 1)) s h e (omega arith) (omega arith)))
+        (λ (l : distance T t s ≤ k + 1). p s h e ∙ value (cond (ltb s T.states) (k + 1) k) s (omega arith))
         (cases_lt (k + 1) (distance T t s))
 
-    pub all : (marks : List ℕ) → Partly T v t T.states 0 marks → Measured T v t marks
-    all marks p s h e =
+    pub all : t < T.states → node_of T t ≡ v → (distances : List (Option ℕ)) → Partly T v t T.states 0 distances → Measured T v t distances
+    all a b distances p s h e =
         let j = ahead s 0 T.states (omega arith) in
-        let m = distance_most s in
-        let q = p s h e in
-        ⊎_elim
-        (λ (l : T.states < distance T t s). let b = beyond (cond (ltb s 0) (T.states + 1) T.states) s (omega arith) in omega arith)
-        (λ (l : distance T t s ≤ T.states). q ∙ value (cond (ltb s 0) (T.states + 1) T.states) s (omega arith))
-        (cases_lt T.states (distance T t s))
+        let m = within s h a (e ∙ sym b) in
+        p s h e ∙ value (cond (ltb s 0) (T.states + 1) T.states) s (omega arith)
 
   -- the first inside choice with a branch to a state one step nearer
-  pub toward_into : (s : ℕ) (marks : List ℕ) → s < T.states → (s ≡ t → ⊥) → Measured T (node_of T s) t marks
-      → first_into T marks (at marks s - 1) s ≡ toward T t s
+  pub toward_into : (s d : ℕ) (distances : List (Option ℕ)) → s < T.states → (s ≡ t → ⊥) → Measured T (node_of T s) t distances
+      → d ≡ distance T t s → first_into T distances (d - 1) s ≡ toward T t s
   unfolding toward
-  toward_into s marks h n m =
+  toward_into s d distances h n m ds =
       let o = distance_other s n in
-      let ds = m s h refl in
       first_same (T.choices s)
-      (λ c. inside T s c && enters T (λ u. eqb (at marks u) (at marks s - 1)) s c)
+      (inside_into T distances (d - 1) s)
       (λ c. inside T s c && enters T (λ u. eqb (suc (distance T t u)) (distance T t s)) s c)
       (λ c l.
       ⊎_elim
       (λ (i : inside T s c ≡ true).
       ap (λ (x : Bool). inside T s c && x)
       (any_ext (T.branches s c)
-      (λ b. eqb (at marks (successor T s c b)) (at marks s - 1))
+      (λ b. has_mark distances (d - 1) (successor T s c b))
       (λ b. eqb (suc (distance T t (successor T s c b))) (distance T t s))
       (λ b k.
       let u : ℕ = successor T s c b in
-      let du : at marks u ≡ distance T t u = m u (L.successors s c b h l k) (stays_node T L s c b i k) in
-      ⊎_elim
+      let du : mark_at distances u ≡ Some (distance T t u) = m u (L.successors s c b h l k) (stays_node T L s c b i k) in
+      ap (λ (x : Option ℕ). option_eq eqb x (Some (d - 1))) du
+      ∙ ⊎_elim
       (λ (q : suc (distance T t u) ≡ distance T t s).
-      eq-eqb (at marks u) (at marks s - 1) (omega arith) ∙ sym (eq-eqb (suc (distance T t u)) (distance T t s) q))
+      eq-eqb (distance T t u) (d - 1) (omega arith) ∙ sym (eq-eqb (suc (distance T t u)) (distance T t s) q))
       (λ (q : suc (distance T t u) ≡ distance T t s → ⊥).
-      ne_eqb (at marks u) (at marks s - 1) (λ z. q (omega arith)) ∙ sym (ne_eqb (suc (distance T t u)) (distance T t s) q))
+      ne_eqb (distance T t u) (d - 1) (λ z. q (omega arith)) ∙ sym (ne_eqb (suc (distance T t u)) (distance T t s) q))
       (cases_eq (suc (distance T t u)) (distance T t s)))))
       (λ (i : inside T s c ≡ false).
-      and_left (inside T s c) (enters T (λ u. eqb (at marks u) (at marks s - 1)) s c) i
+      and_left (inside T s c) (enters T (has_mark distances (d - 1)) s c) i
       ∙ sym (and_left (inside T s c) (enters T (λ u. eqb (suc (distance T t u)) (distance T t s)) s c) i))
       (cases_Bool (inside T s c)))

@@ -130,13 +130,14 @@ pub keeps_true : (T : Table) (b : Book) → keeps T b ≡ true → Kept T b
 unfolding keeps
 keeps_true T b e =
     let M = setting_of T in
-    let p = split M e in let q = split M p.1 in let r = split M q.1 in
+    let p = split M e in let q = split M p.1 in let r = split M q.1 in let t = split M r.1 in
     record {
       fit = fits_true M (book_of b) p.0;
       natural = λ s h. le_z_true (pos 0) (get_or (vec_items b.vector) s (pos 0))
           (every_at T.states (λ s. le_z (pos 0) (get_or (vec_items b.vector) s (pos 0))) q.0 s h);
       halfway = eqb-true (vec_len b.halfway) T.states r.0;
-      marks = eqb-true (vec_len b.marks) T.states r.1;
+      marks = eqb-true (vec_len b.marks) T.states t.0;
+      distances = eqb-true (vec_len b.distances) T.states t.1;
     }
 
 pub keeps_from : (T : Table) (b : Book) → Kept T b → keeps T b ≡ true
@@ -146,4 +147,5 @@ keeps_from T b k =
     join M (fits_from M (book_of b) k.fit)
     (join M (every_from T.states (λ s. le_z (pos 0) (get_or (vec_items b.vector) s (pos 0)))
     (λ s h. le_le_z (pos 0) (get_or (vec_items b.vector) s (pos 0)) (k.natural s h)))
-    (join M (eq-eqb (vec_len b.halfway) T.states k.halfway) (eq-eqb (vec_len b.marks) T.states k.marks)))
+    (join M (eq-eqb (vec_len b.halfway) T.states k.halfway)
+    (join M (eq-eqb (vec_len b.marks) T.states k.marks) (eq-eqb (vec_len b.distances) T.states k.distances))))

@@ -1,25 +1,17 @@
 -- What the rows of a layout hold, place by place.
-use Rattle.std.proofs.Common.{◌≡◌, ℕ, ◌+◌, ◌*◌, ◌^◌, ◌<◌, ◌≤◌, false, eqb, ltb, leb, List, length, get_or, ℤ, pos, sym, refl, ap, ◌∙◌, subst, inl, inr, arith}
+use Rattle.std.proofs.Common.{◌≡◌, ℕ, ◌+◌, ◌*◌, ◌<◌, ◌≤◌, false, ltb, leb, List, length, get_or, take, drop, refl, ap, ◌∙◌, subst, inl, inr, arith}
+use Rattle.std.proofs.lemmas.List.{length-take, length-drop, get_or-take, get_or-drop}
 use Rattle.std.proofs.lemmas.Bool.{cases_Bool, cond-true, cond-false, leb-true, lt-ltb}
-use Rattle.table.specs.Sums.{sum_n}
-use Rattle.table.specs.Table.{successor, weight}
 use Rattle.table.specs.Limits.{Lawful}
 use Rattle.sources.specs.Rows.{run, no_state, no_choice, state_count, state_at, choice_at}
 use Rattle.sources.specs.declared.list.StateRow.{StateRow}
 use Rattle.sources.specs.declared.list.ChoiceRow.{ChoiceRow}
 use Rattle.model.proofs.Unbroken.{model_lawful}
-use Rattle.horizon.specs.Sums.{branch_sum_z}
-use Rattle.components.specs.Below.{any}
 use Rattle.components.specs.Inside.{inside}
 use Rattle.components.specs.Nodes.{nodes, components}
 use Rattle.components.proofs.Law.{nodes_within}
-use Rattle.rules.specs.Choosing.{at}
-use Rattle.rules.specs.Play.{enters}
 use Rattle.book.specs.Layouts.{state_rows, choice_rows, branch_rows, inside_flags, layout_table, row_of, choice_of}
-use Rattle.book.specs.Rows.{place_at, weight_at, run_sum}
 use Rattle.book.specs.declared.layout.Layout.{Layout}
-use Rattle.book.proofs.Lists.{any_ext}
-use Rattle.book.proofs.Rows.{sum_n_cong, weighted_z_same}
 
 -- a run that has places has them all, within its list
 run_whole : (first count size : ℕ) → 1 ≤ run first count size → (run first count size ≡ count) × (first + count ≤ size)
@@ -106,67 +98,19 @@ module _ (l : Layout) where
           cond-true (ltb b n) (get_or (branch_rows l) (first + b) (0, 0)) (0, 0) (lt-ltb b n m)
           ∙ ap (λ (i : ℕ). get_or (branch_rows l) (i + b) (0, 0)) first_branch_is
 
-      -- rows that hold a place of each successor, and the weight
-      module _ (rows : List (ℕ × ℕ)) (place : ℕ → ℕ)
-          (held : (b : ℕ) → b < (layout_table l).branches s c
-          → get_or rows ((choice_of l s c).first + b) (0, 0) ≡ (place (successor (layout_table l) s c b), weight (layout_table l) s c b)) where
-        pub rows_place : (b : ℕ) → b < (layout_table l).branches s c
-            → place_at rows (choice_of l s c).first b ≡ place (successor (layout_table l) s c b)
-        rows_place b m = ap (λ (p : ℕ × ℕ). p.0) (held b m)
-
-        rows_weight : (b : ℕ) → b < (layout_table l).branches s c → weight_at rows (choice_of l s c).first b ≡ weight (layout_table l) s c b
-        rows_weight b m = ap (λ (p : ℕ × ℕ). p.1) (held b m)
-
-        -- the weights are not more than the sum can take
-        pub rows_light : sum_n (choice_of l s c).count (weight_at rows (choice_of l s c).first) ≤ 2 ^ 16
-        rows_light =
-            let n = (layout_table l).branches s c in
-            let e = sum_n_cong n (weight_at rows (choice_of l s c).first) (weight (layout_table l) s c) rows_weight in
-            let g : sum_n n (weight_at rows (choice_of l s c).first) ≡ sum_n (choice_of l s c).count (weight_at rows (choice_of l s c).first) =
-            ap (λ (i : ℕ). sum_n i (weight_at rows (choice_of l s c).first)) branches_are in
-            let w = law.complete s c h k in
-            let d = law.denominator.1 in
+      -- the run of a choice, cut out of rows that have all of it
+      module _ (rows run : List (ℕ × ℕ)) (all : (choice_of l s c).first + (choice_of l s c).count ≤ length rows)
+          (cut : run ≡ take (choice_of l s c).count (drop (choice_of l s c).first rows)) where
+        pub cut_size : length run ≡ (layout_table l).branches s c
+        cut_size =
+            let e = ap (λ (xs : List (ℕ × ℕ)). length xs) cut in
+            let t = length-take (choice_of l s c).count (drop (choice_of l s c).first rows) in
+            let d = length-drop (choice_of l s c).first rows in
+            let n = branches_are in
             omega arith
 
-        -- the sum over the run of rows is that of the choice over the values at the places
-        pub rows_sum : (values : List ℤ)
-            → run_sum rows (choice_of l s c).first values (choice_of l s c).count
-            ≡ branch_sum_z (layout_table l) s c (λ u. get_or values (place u) (pos 0))
-        rows_sum values =
-            let first = (choice_of l s c).first in
-            ap (λ (i : ℕ). run_sum rows first values i) (sym branches_are)
-            ∙ weighted_z_same ((layout_table l).branches s c) (weight_at rows first) (weight (layout_table l) s c)
-            (λ b. get_or values (place_at rows first b) (pos 0)) (λ b. get_or values (place (successor (layout_table l) s c b)) (pos 0))
-            rows_weight (λ b m. ap (λ (u : ℕ). get_or values u (pos 0)) (rows_place b m))
-
-      branch_held : (b : ℕ) → b < (layout_table l).branches s c
-          → get_or {A = ℕ × ℕ} (branch_rows l) ((choice_of l s c).first + b) (0, 0) ≡ (successor (layout_table l) s c b, weight (layout_table l) s c b)
-      branch_held b m = sym (branch_is b m)
-
-      place_is : (b : ℕ) → b < (layout_table l).branches s c → place_at (branch_rows l) (choice_of l s c).first b ≡ successor (layout_table l) s c b
-      place_is = rows_place (branch_rows l) (λ u. u) branch_held
-
-      -- each branch leads to a state
-      pub places_within : (b : ℕ) → b < (choice_of l s c).count → place_at (branch_rows l) (choice_of l s c).first b < (layout_table l).states
-      places_within b m =
-          let n : b < (layout_table l).branches s c = (let e = branches_are in omega arith) in
-          subst (λ (u : ℕ). u < (layout_table l).states) (sym (place_is b n)) (law.successors s c b h k n)
-
-      pub weights_light : sum_n (choice_of l s c).count (weight_at (branch_rows l) (choice_of l s c).first) ≤ 2 ^ 16
-      weights_light = rows_light (branch_rows l) (λ u. u) branch_held
-
-      pub sum_is : (values : List ℤ)
-          → run_sum (branch_rows l) (choice_of l s c).first values (choice_of l s c).count
-          ≡ branch_sum_z (layout_table l) s c (λ u. get_or values u (pos 0))
-      sum_is = rows_sum (branch_rows l) (λ u. u) branch_held
-
-      -- the run of a choice's branches enters what the choice enters
-      pub run_enters : (marks : List ℕ) (mark : ℕ)
-          → any (choice_of l s c).count (λ b. eqb (at marks (place_at (branch_rows l) (choice_of l s c).first b)) mark)
-          ≡ enters (layout_table l) (λ u. eqb (at marks u) mark) s c
-      run_enters marks mark =
-          ap (λ (n : ℕ). any n (λ b. eqb (at marks (place_at (branch_rows l) (choice_of l s c).first b)) mark)) (sym branches_are)
-          ∙ any_ext ((layout_table l).branches s c)
-          (λ b. eqb (at marks (place_at (branch_rows l) (choice_of l s c).first b)) mark)
-          (λ b. eqb (at marks (successor (layout_table l) s c b)) mark)
-          (λ b m. ap (λ (x : ℕ). eqb (at marks x) mark) (place_is b m))
+        pub cut_at : (b : ℕ) → b < (layout_table l).branches s c → get_or {A = ℕ × ℕ} run b (0, 0) ≡ get_or {A = ℕ × ℕ} rows ((choice_of l s c).first + b) (0, 0)
+        cut_at b m =
+            ap (λ (xs : List (ℕ × ℕ)). get_or xs b (0, 0)) cut
+            ∙ get_or-take (choice_of l s c).count (drop (choice_of l s c).first rows) b (0, 0) (let n = branches_are in omega arith)
+            ∙ get_or-drop (choice_of l s c).first rows b (0, 0)

@@ -28,7 +28,7 @@ play_written T B s recorded plan x w a b =
     ∙ ap (λ (p : List Exit). play_by T B.recorded (exit_at p (node_of T s)) s) b
     ∙ sym (play-by T B s)
 
--- an exit that fits names a state of the table
-pub fit_names : (T : Table) (v : ℕ) (e : Exit) → ExitFits (setting_of T) v e → NamesState T e
+-- an exit that fits names a state of its node
+pub fit_names : (T : Table) (v : ℕ) (e : Exit) → ExitFits (setting_of T) v e → NamesState T v e
 fit_names T v Stay f = tt
-fit_names T v (Leave t c) f = f.0
+fit_names T v (Leave t c) f = (f.0, f.1)

@@ -1,6 +1,6 @@
 -- Bounds of weighted sums, so that none overflows.
 use Rattle.std.proofs.Common.{◌≡◌, ℕ, zero, suc, ◌+◌, ◌-◌, ◌*◌, ◌^◌, ◌<◌, ◌≤◌, ℤ, pos, negsuc, ◌+ℤ◌, ◌*ℤ◌, neg_ℤ, nat_abs, ◌≤ℤ◌, List, length, map, get_or, take, drop, ◌++◌, fold, [], ◌∷◌, sym, refl, ap, ◌∙◌, ap₂, subst, map-id, arith}
-use Rattle.std.proofs.lemmas.List.{length-take, length-drop, get_or-take, get_or-drop, get_or-map, length-map, length-append, get_or_append_left, get_or_default, take-append-drop}
+use Rattle.std.proofs.lemmas.List.{get_or-map, length-map, length-append, get_or_append_left, get_or_default, take-append-drop}
 use Rattle.std.proofs.Common.{Option}
 use Rattle.std.proofs.lemmas.Iterator.{YieldsList, items_from_drains}
 use Rattle.std.proofs.lemmas.Iterator.Consumers.{YieldsList-so_far}
@@ -9,7 +9,7 @@ use Rattle.std.specs.Bool.{⊤}
 use Rattle.std.specs.Iterator.{Yields, Drains}
 use Rattle.table.specs.Sums.{sum_n}
 use Rattle.horizon.specs.Sums.{sum_z, weighted_z}
-use Rattle.book.specs.Rows.{place_at, weight_at, run_sum, Within, Small}
+use Rattle.book.specs.Rows.{place_at, weight_at, Within, Small}
 use Rattle.horizon.specs.Ring.{lin, mono, over_neg}
 
 -- n times a number that is at most B either way
@@ -52,16 +52,6 @@ pub natural_is : (z : ℤ) → pos 0 ≤ℤ z → z ≡ pos (nat_abs z)
 natural_is (pos n) h = refl
 natural_is (negsuc n) h = let z : ⊥ = omega (arith, lin) in absurd z
 
--- the branches of a run, and the branch i of it
-abbrev pub run : List (ℕ × ℕ) → ℕ → ℕ → List (ℕ × ℕ)
-run row first count = take (first + count - first) (drop first row)
-
-pub run_end : (row : List (ℕ × ℕ)) (first count i : ℕ) → i < length (run row first count) → i < count
-run_end row first count i h = let t = length-take (first + count - first) (drop first row) in omega arith
-
-pub run_at : (row : List (ℕ × ℕ)) (first count i : ℕ) → i < count → get_or {A = ℕ × ℕ} (run row first count) i (0, 0) ≡ get_or {A = ℕ × ℕ} row (first + i) (0, 0)
-run_at row first count i h = get_or-take (first + count - first) (drop first row) i (0, 0) (omega arith) ∙ get_or-drop first row i (0, 0)
-
 -- a fold that adds the elements of a list, from the number a on
 sum_z_front : (k : ℕ) (f : ℕ → ℤ) → sum_z (suc k) f ≡ f 0 +ℤ sum_z k (λ i. f (suc i))
 sum_z_front zero f = omega (arith, lin)
@@ -76,62 +66,56 @@ added a (x ∷ xs) f h =
     omega (arith, lin)
 
 -- the sums along a run of branches
-module _ (row : List (ℕ × ℕ)) (first count : ℕ) (values : List ℤ) where
+module _ (run : List (ℕ × ℕ)) (values : List ℤ) where
+  abbrev product : ℕ × ℕ → ℤ
+  product x = pos x.1 *ℤ get_or values x.0 (pos 0)
+
   abbrev pub terms : List ℤ
-  terms = map (λ (x : ℕ × ℕ). pos x.1 *ℤ get_or values x.0 (pos 0)) (run row first count)
+  terms = map product run
+
+  -- the sum over the first k branches
+  abbrev pub part_sum : ℕ → ℤ
+  part_sum k = weighted_z k (weight_at run) (λ b. get_or values (place_at run b) (pos 0))
+
+  pub terms_few : (xs more : List ℤ) → terms ≡ xs ++ more → length xs ≤ length run
+  terms_few xs more e =
+      let size : length run ≡ length xs + length more = sym (length-map run product) ∙ ap (λ (l : List ℤ). length l) e ∙ length-append xs more in
+      omega arith
 
   -- the first elements add up to the sum over as many branches
-  pub terms_sum : (xs more : List ℤ) → terms ≡ xs ++ more → fold ◌+ℤ◌ (pos 0) xs ≡ run_sum row first values (length xs)
+  pub terms_sum : (xs more : List ℤ) → terms ≡ xs ++ more → fold ◌+ℤ◌ (pos 0) xs ≡ part_sum (length xs)
   terms_sum xs more e =
-      let h : ℕ × ℕ → ℤ = λ x. pos x.1 *ℤ get_or values x.0 (pos 0) in
-      let size : length (run row first count) ≡ length xs + length more = sym (length-map (run row first count) h) ∙ ap (λ (l : List ℤ). length l) e ∙ length-append xs more in
-      let a = added (pos 0) xs (λ b. h (get_or {A = ℕ × ℕ} row (first + b) (0, 0)))
+      let size : length run ≡ length xs + length more = sym (length-map run product) ∙ ap (λ (l : List ℤ). length l) e ∙ length-append xs more in
+      let a = added (pos 0) xs (λ b. product (get_or {A = ℕ × ℕ} run b (0, 0)))
       (λ i l. sym (get_or_append_left xs more (pos 0) i l) ∙ ap (λ (l : List ℤ). get_or l i (pos 0)) (sym e)
-      ∙ get_or-map h (run row first count) i (0, 0) (pos 0) (omega arith)
-      ∙ ap h (run_at row first count i (run_end row first count i (omega arith)))) in
+      ∙ get_or-map product run i (0, 0) (pos 0) (omega arith)) in
       omega (arith, lin)
 
-  pub terms_few : (xs more : List ℤ) → terms ≡ xs ++ more → length xs ≤ count
-  terms_few xs more e =
-      let h : ℕ × ℕ → ℤ = λ x. pos x.1 *ℤ get_or values x.0 (pos 0) in
-      let size : length (run row first count) ≡ length xs + length more = sym (length-map (run row first count) h) ∙ ap (λ (l : List ℤ). length l) e ∙ length-append xs more in
-      let t = length-take (first + count - first) (drop first row) in
-      omega arith
-
-  pub terms_all : first + count ≤ length row → length terms ≡ count
-  terms_all l =
-      let h : ℕ × ℕ → ℤ = λ x. pos x.1 *ℤ get_or values x.0 (pos 0) in
-      let m = length-map (run row first count) h in
-      let t = length-take (first + count - first) (drop first row) in
-      let d = length-drop first row in
-      omega arith
-
-  module _ (inside : (b : ℕ) → b < count → place_at row first b < length values) (light : sum_n count (weight_at row first) ≤ 2 ^ 16) (small : Small values) where
-    run_within : (k : ℕ) → k ≤ count → Within (sum_n k (weight_at row first) * 2 ^ 46) (run_sum row first values k)
-    run_within zero l = (omega (arith, lin), omega (arith, lin))
-    run_within (suc k) l =
-        let ih = run_within k (omega arith) in
-        let v = small (place_at row first k) (inside k (omega arith)) in
-        let s = scaled (weight_at row first k) (get_or values (place_at row first k) (pos 0)) (2 ^ 46) v.0 v.1 in
+  module _ (inside : (b : ℕ) → b < length run → place_at run b < length values) (light : sum_n (length run) (weight_at run) ≤ 2 ^ 16) (small : Small values) where
+    part_within : (k : ℕ) → k ≤ length run → Within (sum_n k (weight_at run) * 2 ^ 46) (part_sum k)
+    part_within zero l = (omega (arith, lin), omega (arith, lin))
+    part_within (suc k) l =
+        let ih = part_within k (omega arith) in
+        let v = small (place_at run k) (inside k (omega arith)) in
+        let s = scaled (weight_at run k) (get_or values (place_at run k) (pos 0)) (2 ^ 46) v.0 v.1 in
         (omega (arith, lin), omega (arith, lin))
 
     -- none of them is large
-    pub run_small : (k : ℕ) → k ≤ count → Within (2 ^ 62) (run_sum row first values k)
-    run_small k l =
-        let r = run_within k l in
-        let p = part_of k count (weight_at row first) l in
+    pub part_small : (k : ℕ) → k ≤ length run → Within (2 ^ 62) (part_sum k)
+    part_small k l =
+        let r = part_within k l in
+        let p = part_of k (length run) (weight_at run) l in
         (omega (arith, lin), omega (arith, lin))
 
     -- each branch of the run has a place, a weight and a value
-    pub branch_fits : (x : ℕ × ℕ) (k : ℕ) → k < length (run row first count) → x ≡ get_or (run row first count) k x
+    pub branch_fits : (x : ℕ × ℕ) (k : ℕ) → k < length run → x ≡ get_or run k x
         → (x.0 < length values) × (x.1 ≤ 2 ^ 16) × Within (2 ^ 46) (get_or values x.0 (pos 0))
     branch_fits x k h e =
-        let l : k < count = run_end row first count k h in
-        let q : x ≡ get_or {A = ℕ × ℕ} row (first + k) (0, 0) = e ∙ get_or_default (run row first count) k x (0, 0) h ∙ run_at row first count k l in
-        let p : x.0 ≡ place_at row first k = ap (λ (y : ℕ × ℕ). y.0) q in
-        let w : x.1 ≡ weight_at row first k = ap (λ (y : ℕ × ℕ). y.1) q in
-        let i : x.0 < length values = (let a = inside k l in omega arith) in
-        let m : sum_n (suc k) (weight_at row first) ≤ sum_n count (weight_at row first) = part_of (suc k) count (weight_at row first) (omega arith) in
+        let q : x ≡ get_or {A = ℕ × ℕ} run k (0, 0) = e ∙ get_or_default run k x (0, 0) h in
+        let p : x.0 ≡ place_at run k = ap (λ (y : ℕ × ℕ). y.0) q in
+        let w : x.1 ≡ weight_at run k = ap (λ (y : ℕ × ℕ). y.1) q in
+        let i : x.0 < length values = (let a = inside k h in omega arith) in
+        let m : sum_n (suc k) (weight_at run) ≤ sum_n (length run) (weight_at run) = part_of (suc k) (length run) (weight_at run) (omega arith) in
         (i, omega arith, small x.0 i)
 
 -- what holds of the first elements of a list, however many, holds along each run of an iterator that gives the list

@@ -33,6 +33,7 @@ module _ (T : Table) (v : ℕ) (b : Book) (upper lower : Option Candidate) (is-u
     plan = with_items b.plan plan;
     halfway = b.halfway;
     marks = b.marks;
+    distances = b.distances;
   }
 
   pub settled : book_of settled_book ≡ update (setting_of T) v (book_of b)
@@ -66,4 +67,5 @@ module _ (T : Table) (v : ℕ) (b : Book) (upper lower : Option Candidate) (is-u
     natural = K.natural;
     halfway = K.halfway;
     marks = K.marks;
+    distances = K.distances;
   }

@@ -105,6 +105,7 @@ pub record Holds (T : Table) (b : Book) : Type 0 where
   pub plan : vec_items b.plan ≡ tabulate (nodes T) (first_exit T)
   pub halfway : vec_len b.halfway ≡ T.states
   pub marks : vec_len b.marks ≡ T.states
+  pub distances : vec_len b.distances ≡ T.states
 
 module _ (T : Table) (L : Lawful T) (b : Book) (h : Holds T b) where
   book_is : book_of b ≡ start (setting_of T)
@@ -126,6 +127,7 @@ module _ (T : Table) (L : Lawful T) (b : Book) (h : Holds T b) where
           omega (arith, ints));
       halfway = h.halfway;
       marks = h.marks;
+      distances = h.distances;
     };
   }
 
@@ -144,4 +146,5 @@ kept_sized T b k =
       plan = let o = b.plan.ok.0 in let e = l.plan in omega arith;
       halfway = k.halfway;
       marks = k.marks;
+      distances = k.distances;
     }

@@ -23,3 +23,4 @@ pub record Kept (T : Table) (b : Book) : Type 0 where
   pub natural : (s : ℕ) → s < T.states → pos 0 ≤ℤ slice_index_or (vec_items b.vector) s (pos 0)
   pub halfway : vec_len b.halfway ≡ T.states
   pub marks : vec_len b.marks ≡ T.states
+  pub distances : vec_len b.distances ≡ T.states

@@ -51,4 +51,4 @@ unfoldable pub keeps : Table → Book → Bool
 keeps T b =
     fits (setting_of T) (book_of b)
     && (every T.states (λ s. int_le (pos 0) (slice_index_or (vec_items b.vector) s (pos 0)))
-    && (vec_len b.halfway == T.states && vec_len b.marks == T.states))
+    && (vec_len b.halfway == T.states && (vec_len b.marks == T.states && vec_len b.distances == T.states)))

@@ -9,5 +9,6 @@ pub mod Grouped
 pub mod Facts
 pub mod Layouts
 pub mod Vectors
+pub mod Faces
 pub mod Keeps
 pub mod Desks

@@ -30,6 +30,7 @@ pub record Sized (T : Table) (b : Book) : Type 0 where
   pub plan : vec_len b.plan ≡ nodes T
   pub halfway : vec_len b.halfway ≡ T.states
   pub marks : vec_len b.marks ≡ T.states
+  pub distances : vec_len b.distances ≡ T.states
 
 -- the book is the start, and keeps what a book keeps
 pub record Started (T : Table) (b : Book) : Type 0 where

@@ -16,7 +16,8 @@ pub struct Book {
     pub(crate) y: Vec<i64>,
     pub(crate) plan: Vec<Exit>,
     // working space, a place for each state: of a refine step the halfway numbers and the choices that attain the gains;
-    // `plan` keeps in `marks` how far each state is from a choice that leaves
+    // of `plan` how far each state is from the state that its node leaves from
     pub(crate) halfway: Vec<i64>,
     pub(crate) marks: Vec<u32>,
+    pub(crate) distances: Vec<Option<u32>>,
 }

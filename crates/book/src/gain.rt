@@ -21,7 +21,7 @@ pub(crate) struct Gain {
     pub(crate) choice: u32,
 }
 
-// The choice of an exit that leaves; 0 for one that stays, which no inside choice is.
+// The choice of an exit that leaves; 0 for one that stays. No Option: only exits of inside choices come here, and each of them leaves.
 fn chosen(exit: Exit) -> u32
     ensures { result ≡ choice_or exit 0 }
 {
@@ -55,15 +55,11 @@ impl Vector<'_> {
         ensures upper { result.0 ≡ refining.worth (setting_of (vector_table self.now)) round_up (numbers self.now) state choice }
         ensures lower { result.1 ≡ refining.worth (setting_of (vector_table self.now)) round_down (numbers self.now) state choice }
     {
-        let row = self.layout.choice(state, choice);
-        let sum = total(
-            &self.layout.model.rows.branches,
-            row.first,
-            row.count,
-            self.numbers,
-        );
-        let upper = worth::<UpperSide>(row.reward, sum, self.layout.model.rows.denominator);
-        let lower = worth::<LowerSide>(row.reward, sum, self.layout.model.rows.denominator);
+        let reward = self.layout.reward(state, choice);
+        let sum = total(self.layout.branches_of(state, choice), self.numbers);
+        let denominator = self.layout.model.rows.denominator;
+        let upper = worth::<UpperSide>(reward, sum, denominator);
+        let lower = worth::<LowerSide>(reward, sum, denominator);
         (upper, lower)
     }
 

@@ -8,6 +8,7 @@ use model::LoadFault;
 use std::alloc::Global;
 
 // The states by node, and where the states of each node begin, with the end of the last.
+// One flat list, and no list for each node: flat data is a rule of the project.
 #[derive(Drop)]
 pub(crate) struct Groups {
     pub(crate) members: Vec<u32>,

@@ -8,6 +8,7 @@ ghost use Rattle.book.specs.Facts.{InsidesAt, NodesAt, StartsRise, StartsWithin,
 use model::Model;
 
 // The engine's own copy of a lawful table, with its components and nodes in flat lists.
+// Not a list for each state or choice: flat data, and no allocation after loading, is a rule of the project.
 #[derive(Drop)]
 pub struct Layout {
     pub(crate) model: Model,

@@ -4,6 +4,7 @@
 mod best;
 mod book;
 mod desk;
+mod faces;
 mod gain;
 mod groups;
 mod lay;

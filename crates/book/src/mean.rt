@@ -1,4 +1,4 @@
-ghost use Rattle.std.specs.Prelude.{◌≡◌, ℕ, ◌+◌, ◌*◌, ◌^◌, ◌<◌, ◌≤◌, length, pos, ◌+ℤ◌, ◌*ℤ◌};
+ghost use Rattle.std.specs.Prelude.{◌≡◌, ℕ, ◌*◌, ◌^◌, ◌<◌, ◌≤◌, length, pos, ◌+ℤ◌, ◌*ℤ◌};
 ghost use Rattle.table.specs.Sums.{sum_n};
 ghost use Rattle.book.specs.Rows.{place_at, weight_at, run_sum, Within, Small};
 
@@ -16,16 +16,13 @@ fn share(weight: u32, value: i64) -> i64
 }
 
 // The sum of weight times value over a run of branches.
-pub(crate) fn total(branches: &[(u32, u32)], first: u32, count: u32, values: &[i64]) -> i64
-    requires within { first + count ≤ length branches.now }
-    requires inside { (b : ℕ) → b < count → place_at branches.now first b < length values.now }
-    requires light { sum_n count (weight_at branches.now first) ≤ 2 ^ 16 }
+pub(crate) fn total(run: &[(u32, u32)], values: &[i64]) -> i64
+    requires inside { (b : ℕ) → b < length run.now → place_at run.now b < length values.now }
+    requires light { sum_n (length run.now) (weight_at run.now) ≤ 2 ^ 16 }
     requires small { Small values.now }
-    ensures value { result ≡ run_sum branches.now first values.now count }
+    ensures value { result ≡ run_sum run.now values.now }
     ensures within { Within (2 ^ 62) result }
 {
-    let from = first as usize;
-    let run = &branches[from..from + count as usize];
     run.iter()
         .map(|(place, weight)| share(*weight, values[*place as usize]))
         .sum()

@@ -1,13 +1,24 @@
-ghost use Rattle.std.specs.Prelude.{◌≡◌, ◌<◌, ◌+◌, ◌≤◌, length, Some};
+ghost use Rattle.std.specs.Prelude.{◌≡◌, ℕ, ◌<◌, ◌+◌, ◌≤◌, length, take, drop, Some, slice_index_or};
 ghost use Rattle.components.specs.Inside.{inside};
 ghost use Rattle.components.specs.Nodes.{nodes, node_of, components, component_at};
 ghost use Rattle.book.specs.Facts.{node_states};
 ghost use Rattle.book.specs.Layouts.{layout_table, choice_rows, row_of, choice_of};
+ghost use Rattle.book.specs.Listed.{link_of};
 
 use crate::layout::Layout;
 use sources::ChoiceRow;
 
+// The run of a choice in a list, by the row of the choice.
+fn run_in(list: &[(u32, u32)], row: ChoiceRow) -> &[(u32, u32)]
+    requires { row.first + row.count ≤ length list.now }
+    ensures { result.now ≡ take row.count (drop row.first list.now) }
+{
+    let first = row.first as usize;
+    &list[first..first + row.count as usize]
+}
+
 // What a layout holds, place by place.
+// That a state, a choice, a node or a component is one of the table is asked at each call, since each asks of another one.
 impl Layout {
     // How many states there are.
     pub(crate) fn states(&self) -> u32
@@ -44,13 +55,42 @@ impl Layout {
     }
 
     // The row of a choice.
-    pub(crate) fn choice(&self, state: u32, choice: u32) -> ChoiceRow
+    fn choice(&self, state: u32, choice: u32) -> ChoiceRow
         requires state { state < (layout_table self.now).states }
         requires choice { choice < (layout_table self.now).choices state }
         ensures { result ≡ choice_of self.now state choice }
     {
         let first = self.model.rows.states[state as usize].first as usize;
         self.model.rows.choices[first + choice as usize]
+    }
+
+    // The reward of a choice.
+    pub(crate) fn reward(&self, state: u32, choice: u32) -> i32
+        requires state { state < (layout_table self.now).states }
+        requires choice { choice < (layout_table self.now).choices state }
+        ensures { result ≡ (layout_table self.now).reward state choice }
+    {
+        self.choice(state, choice).reward
+    }
+
+    // The branches of a choice, each a successor and a weight.
+    pub(crate) fn branches_of(&self, state: u32, choice: u32) -> &[(u32, u32)]
+        requires state { state < (layout_table self.now).states }
+        requires choice { choice < (layout_table self.now).choices state }
+        ensures size { length result.now ≡ (layout_table self.now).branches state choice }
+        ensures at { (b : ℕ) → b < (layout_table self.now).branches state choice → slice_index_or result.now b (0, 0) ≡ (layout_table self.now).branch state choice b }
+    {
+        run_in(&self.model.rows.branches, self.choice(state, choice))
+    }
+
+    // The branches of a choice, each the node of the successor and a weight.
+    pub(crate) fn links_of(&self, state: u32, choice: u32) -> &[(u32, u32)]
+        requires state { state < (layout_table self.now).states }
+        requires choice { choice < (layout_table self.now).choices state }
+        ensures size { length result.now ≡ (layout_table self.now).branches state choice }
+        ensures at { (b : ℕ) → b < (layout_table self.now).branches state choice → slice_index_or result.now b (0, 0) ≡ link_of (node_of (layout_table self.now)) ((layout_table self.now).branch state choice b) }
+    {
+        run_in(&self.links, self.choice(state, choice))
     }
 
     // Whether a choice is inside.

@@ -1,32 +1,30 @@
-ghost use Rattle.std.specs.Prelude.{◌≡◌, ℕ, ◌+◌, ◌<◌, ◌≤◌, true, false, ◌++◌, length, drop, ◌≢◌, nat_eq};
+ghost use Rattle.std.specs.Prelude.{◌≡◌, ℕ, ◌<◌, ◌≤◌, true, false, None, ◌++◌, length, drop, ◌≢◌};
 ghost use Rattle.components.specs.Below.{any};
 ghost use Rattle.components.specs.Nodes.{nodes, node_of};
 ghost use Rattle.rules.specs.Book.{exit_at};
 ghost use Rattle.rules.specs.Choosing.{at};
 ghost use Rattle.book.specs.Rows.{place_at};
 ghost use Rattle.book.specs.Layouts.{layout_table};
-ghost use Rattle.book.specs.Plays.{inside_into, first_into, Fresh, Measured, Ready, play_by, Named};
+ghost use Rattle.book.specs.Plays.{mark_at, has_mark, inside_into, first_into, Fresh, Measured, Ready, play_by, Named};
 
 use crate::layout::Layout;
 use rules::Exit;
 
 // Whether a branch of a run leads to a state with the mark.
-fn enters(branches: &[(u32, u32)], first: u32, count: u32, marks: &[u32], mark: u32) -> bool
-    requires within { first + count ≤ length branches.now }
-    requires inside { (b : ℕ) → b < count → place_at branches.now first b < length marks.now }
-    ensures { result ≡ any count (λ b. nat_eq (at marks.now (place_at branches.now first b)) mark) }
+fn enters(run: &[(u32, u32)], distances: &[Option<u32>], mark: u32) -> bool
+    requires inside { (b : ℕ) → b < length run.now → place_at run.now b < length distances.now }
+    ensures { result ≡ any (length run.now) (λ b. has_mark distances.now mark (place_at run.now b)) }
 {
-    let from = first as usize;
-    let run = &branches[from..from + count as usize];
-    run.iter().any(|branch| marks[branch.0 as usize] == mark)
+    run.iter()
+        .any(|branch| distances[branch.0 as usize] == Some(mark))
 }
 
-// A layout and marks of its states: how far each is from a target, or a number past all distances.
+// A layout and the marks of its states: how far each is from a target, where that is known.
 #[derive(Clone, Copy)]
 struct Marked<'a> {
     layout: &'a Layout,
-    marks: &'a [u32],
-    ghost room: { (layout_table layout.now).states ≤ length marks.now },
+    distances: &'a [Option<u32>],
+    ghost room: { (layout_table layout.now).states ≤ length distances.now },
 }
 
 impl Marked<'_> {
@@ -34,17 +32,10 @@ impl Marked<'_> {
     fn inside_into(&self, state: u32, choice: u32, mark: u32) -> bool
         requires known { state < (layout_table self.now.layout.now).states }
         requires chosen { choice < (layout_table self.now.layout.now).choices state }
-        ensures { result ≡ inside_into (layout_table self.now.layout.now) self.now.marks.now mark state choice }
+        ensures { result ≡ inside_into (layout_table self.now.layout.now) self.now.distances.now mark state choice }
     {
         if self.layout.is_inside(state, choice) {
-            let row = self.layout.choice(state, choice);
-            enters(
-                &self.layout.model.rows.branches,
-                row.first,
-                row.count,
-                self.marks,
-                mark,
-            )
+            enters(self.layout.branches_of(state, choice), self.distances, mark)
         } else {
             false
         }
@@ -54,7 +45,7 @@ impl Marked<'_> {
     // the rules name that number too where there is none, so an Option would only be read back as it where a choice is played.
     fn first_into(&self, state: u32, mark: u32) -> u32
         requires known { state < (layout_table self.now.layout.now).states }
-        ensures { result ≡ first_into (layout_table self.now.layout.now) self.now.marks.now mark state }
+        ensures { result ≡ first_into (layout_table self.now.layout.now) self.now.distances.now mark state }
     {
         let count = self.layout.choices(state);
         (0..count)
@@ -65,20 +56,18 @@ impl Marked<'_> {
     // Whether a state has no mark yet, and an inside choice with a branch to a state with the mark `round`.
     fn fresh(&self, round: u32, state: u32) -> bool
         requires known { state < (layout_table self.now.layout.now).states }
-        ensures found { result ≡ true → Fresh (layout_table self.now.layout.now) round state self.now.marks.now }
-        ensures missed { result ≡ false → Fresh (layout_table self.now.layout.now) round state self.now.marks.now → ⊥ }
+        ensures found { result ≡ true → Fresh (layout_table self.now.layout.now) round state self.now.distances.now }
+        ensures missed { result ≡ false → Fresh (layout_table self.now.layout.now) round state self.now.distances.now → ⊥ }
     {
-        if self.marks[state as usize] <= self.layout.states() {
-            return false;
-        }
-        self.first_into(state, round) < self.layout.choices(state)
+        self.distances[state as usize].is_none()
+            && self.first_into(state, round) < self.layout.choices(state)
     }
 
     // The choice that a state plays under the exit of its node.
     fn played(&self, recorded: &[u32], exit: Exit, state: u32) -> u32
         requires known { state < (layout_table self.now.layout.now).states }
         requires recorded { (layout_table self.now.layout.now).states ≤ length recorded.now }
-        requires ready { Ready (layout_table self.now.layout.now) (node_of (layout_table self.now.layout.now) state) exit self.now.marks.now }
+        requires ready { Ready (layout_table self.now.layout.now) (node_of (layout_table self.now.layout.now) state) exit self.now.distances.now }
         ensures { result ≡ play_by (layout_table self.now.layout.now) recorded.now exit state }
     {
         match exit {
@@ -90,7 +79,10 @@ impl Marked<'_> {
                 if state == target {
                     choice
                 } else {
-                    self.first_into(state, self.marks[state as usize] - 1)
+                    let Some(distance) = self.distances[state as usize] else {
+                        unreachable()
+                    };
+                    self.first_into(state, distance - 1)
                 }
             }
         }
@@ -101,7 +93,7 @@ impl Marked<'_> {
         requires known { node < nodes (layout_table self.now.layout.now) }
         requires recorded { (layout_table self.now.layout.now).states ≤ length recorded.now }
         requires room { (layout_table self.now.layout.now).states ≤ length list.old }
-        requires ready { Ready (layout_table self.now.layout.now) node exit self.now.marks.now }
+        requires ready { Ready (layout_table self.now.layout.now) node exit self.now.distances.now }
         ensures written { (s : ℕ) → s < (layout_table self.now.layout.now).states → node_of (layout_table self.now.layout.now) s ≡ node → at list.new s ≡ play_by (layout_table self.now.layout.now) recorded.now exit s }
         ensures others { (s : ℕ) → s < (layout_table self.now.layout.now).states → (node_of (layout_table self.now.layout.now) s ≢ node) → at list.new s ≡ at list.old s }
         ensures rest { drop (layout_table self.now.layout.now).states list.new ≡ drop (layout_table self.now.layout.now).states list.old }
@@ -113,23 +105,36 @@ impl Marked<'_> {
     }
 }
 
+// Takes away the marks of the states of a node.
+fn unmark(layout: &Layout, distances: &mut [Option<u32>], node: u32)
+    requires node { node < nodes (layout_table layout.now) }
+    requires room { (layout_table layout.now).states ≤ length distances.old }
+    ensures { (s : ℕ) → s < (layout_table layout.now).states → node_of (layout_table layout.now) s ≡ node → mark_at distances.new s ≡ None }
+{
+    let members = layout.members_of(node);
+    for &state in members {
+        distances[state as usize] = None;
+    }
+}
+
 // Marks each state of a node with its distance to the target, round by round until none is one step further.
-fn measure(layout: &Layout, marks: &mut [u32], node: u32, target: u32)
+// The rounds are a loop: each writes the marks that the next one reads, which a closure would hide.
+fn measure(layout: &Layout, distances: &mut [Option<u32>], node: u32, target: u32)
     requires node { node < nodes (layout_table layout.now) }
     requires known { target < (layout_table layout.now).states }
-    requires room { (layout_table layout.now).states ≤ length marks.old }
-    ensures { Measured (layout_table layout.now) node target marks.new }
+    requires home { node_of (layout_table layout.now) target ≡ node }
+    requires room { (layout_table layout.now).states ≤ length distances.old }
+    ensures { Measured (layout_table layout.now) node target distances.new }
 {
-    let states = layout.states();
-    marks[..states as usize].fill(states + 1);
-    marks[target as usize] = 0;
+    unmark(layout, distances, node);
+    distances[target as usize] = Some(0);
     let members = layout.members_of(node);
-    for round in 0..states {
+    for round in 0..layout.states() {
         let mut further = false;
         for &state in members {
-            let marked = Marked { layout, marks };
+            let marked = Marked { layout, distances };
             if marked.fresh(round, state) {
-                marks[state as usize] = round + 1;
+                distances[state as usize] = Some(round + 1);
                 further = true;
             }
         }
@@ -144,13 +149,13 @@ pub(crate) fn write_nodes(
     layout: &Layout,
     recorded: &[u32],
     plan: &[Exit],
-    marks: &mut [u32],
+    distances: &mut [Option<u32>],
     list: &mut [u32],
 )
     requires recorded { (layout_table layout.now).states ≤ length recorded.now }
     requires plan { length plan.now ≡ nodes (layout_table layout.now) }
     requires named { Named (layout_table layout.now) plan.now }
-    requires marks { (layout_table layout.now).states ≤ length marks.old }
+    requires distances { (layout_table layout.now).states ≤ length distances.old }
     requires room { (layout_table layout.now).states ≤ length list.old }
     ensures written { (s : ℕ) → s < (layout_table layout.now).states → at list.new s ≡ play_by (layout_table layout.now) recorded.now (exit_at plan.now (node_of (layout_table layout.now) s)) s }
     ensures rest { drop (layout_table layout.now).states list.new ≡ drop (layout_table layout.now).states list.old }
@@ -158,9 +163,9 @@ pub(crate) fn write_nodes(
     for (v, exit) in plan.iter().enumerate() {
         let node = v as u32;
         if let Exit::Leave { state, .. } = *exit {
-            measure(layout, marks, node, state);
+            measure(layout, distances, node, state);
         }
-        let marked = Marked { layout, marks };
+        let marked = Marked { layout, distances };
         marked.write_node(recorded, node, *exit, list);
     }
 }

@@ -186,6 +186,7 @@ fn narrow(lo: &[i64], hi: &[i64], component: usize, width: u64) -> bool
 
 impl Desk {
     // At most `steps` steps at a component: they end before a step if hi - lo is at most the width, and after a held step. Answers how many were made.
+    // A loop: a step changes the desk and its answer ends the loop; `find` over such steps would hide what it does.
     pub(crate) fn refine_steps(&mut self, component: u32, steps: u64, width: u64) -> u64
         requires { component < components (desk_table self.old) }
         ensures table { desk_table self.new ≡ desk_table self.old }

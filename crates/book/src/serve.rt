@@ -17,6 +17,7 @@ use model::LoadFault;
 use std::alloc::Global;
 use table::Source;
 
+// That the table is as it was stands on each call that changes a desk: a type cannot say what a call leaves as it was.
 impl Desk {
     // The source's table at its start, if it is lawful; else the first broken limit on its walk.
     pub fn open<S: Source>(heap: Global, source: &S) -> Result<Desk, LoadFault>
@@ -107,7 +108,7 @@ impl Desk {
             &self.layout,
             &self.book.recorded,
             &self.book.plan,
-            &mut self.book.marks,
+            &mut self.book.distances,
             list,
         );
     }

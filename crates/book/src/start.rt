@@ -104,6 +104,7 @@ pub(crate) fn new_book(heap: Global, layout: &Layout) -> Result<Book, AllocError
         plan: vec![in heap; Exit::Stay; nodes]?,
         halfway: vec![in heap; 0; states]?,
         marks: vec![in heap; 0; states]?,
+        distances: vec![in heap; None; states]?,
     };
     write_start(layout, &mut book);
     Ok(book)

@@ -8,8 +8,7 @@ ghost use Rattle.book.specs.Desks.{desk_table, desk_book};
 ghost use Rattle.book.specs.Sweeps.{same_at};
 
 use crate::desk::Desk;
-use crate::leaving::best_exit;
-use horizon::{LowerSide, UpperSide};
+use crate::faces::Faces;
 use rules::{Candidate, Exit};
 
 // The exit of the best candidate if it is above what was there, else the one before.
@@ -50,8 +49,14 @@ impl Desk {
         ensures book { desk_book self.new ≡ update (setting_of (desk_table self.old)) node (desk_book self.old) }
         ensures same { result ≡ same_at (desk_book self.old) (desk_book self.new) node }
     {
-        let upper = best_exit::<UpperSide>(&self.layout, &self.book.hi, &self.book.x, node);
-        let lower = best_exit::<LowerSide>(&self.layout, &self.book.lo, &self.book.y, node);
+        let faces = Faces {
+            layout: &self.layout,
+            hi: &self.book.hi,
+            x: &self.book.x,
+            lo: &self.book.lo,
+            y: &self.book.y,
+        };
+        let (upper, lower) = faces.best_exits(node);
         let place = node as usize;
         let before = self.book.y[place];
         let same_x = settle(&mut self.book.x, place, upper);
@@ -74,6 +79,7 @@ impl Desk {
     }
 
     // At most `count` sweeps: they end after one that altered no x or y. Answers how many were made.
+    // A loop: a sweep changes the desk and its answer ends the loop; `find` over such sweeps would hide what it does.
     pub(crate) fn sweep_times(&mut self, count: u64) -> u64
         ensures table { desk_table self.new ≡ desk_table self.old }
         ensures made { result ≡ (sweeps (setting_of (desk_table self.old)) count (desk_book self.old)).made }

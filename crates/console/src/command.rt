@@ -36,7 +36,8 @@ pub fn read_command(line: &[u8]) -> Option<Command>
     by_letter(char::from(*letter), text)
 }
 
-// The command of a line that begins with this letter; the text follows it.
+// The command of a line that begins with this letter; the text follows it. A rule of this project: letters are matched as
+// char literals in one small function.
 fn by_letter(letter: char, text: &[u8]) -> Option<Command>
     ensures { result ≡ command_by letter text.now }
 {

@@ -29,26 +29,26 @@ every_false n p i h e =
     (cases_Bool (every n p))
 
 -- a choice that is not there, one that leads back, and one that is dropped
-pub choice_absent : (T : Table) (words : List ℕ) (s c : ℕ) (flags : List Bool) → flag_at flags s c ≡ false
-    → DroppedChoice T words s c flags flags false
-choice_absent T words s c flags e = record {
-  here = e ∙ sym (and_left (flag_at flags s c) (leads_back T words s c) e);
+pub choice_absent : (T : Table) (rows : List (List ℕ)) (s c : ℕ) (flags : List Bool) → flag_at flags s c ≡ false
+    → DroppedChoice T rows s c flags flags false
+choice_absent T rows s c flags e = record {
+  here = e ∙ sym (and_left (flag_at flags s c) (leads_back T rows s c) e);
   other = λ i h. refl;
   still = λ _. refl;
 }
 
-pub choice_stays : (T : Table) (words : List ℕ) (s c : ℕ) (flags : List Bool) → flag_at flags s c ≡ true → leads_back T words s c ≡ true
-    → DroppedChoice T words s c flags flags false
-choice_stays T words s c flags e f = record {
-  here = e ∙ sym (and_from (flag_at flags s c) (leads_back T words s c) e f);
+pub choice_stays : (T : Table) (rows : List (List ℕ)) (s c : ℕ) (flags : List Bool) → flag_at flags s c ≡ true → leads_back T rows s c ≡ true
+    → DroppedChoice T rows s c flags flags false
+choice_stays T rows s c flags e f = record {
+  here = e ∙ sym (and_from (flag_at flags s c) (leads_back T rows s c) e f);
   other = λ i h. refl;
   still = λ _. refl;
 }
 
-pub choice_goes : (T : Table) (words : List ℕ) (s c : ℕ) (flags new : List Bool) → 16 * s + c < length flags → leads_back T words s c ≡ false
-    → new ≡ set flags (16 * s + c) false → DroppedChoice T words s c flags new true
-choice_goes T words s c flags new l f e = subst (λ xs. DroppedChoice T words s c flags xs true) (sym e) (record {
-  here = get_or-set_same flags (16 * s + c) false false l ∙ sym (and_right (flag_at flags s c) (leads_back T words s c) f);
+pub choice_goes : (T : Table) (rows : List (List ℕ)) (s c : ℕ) (flags new : List Bool) → 16 * s + c < length flags → leads_back T rows s c ≡ false
+    → new ≡ set flags (16 * s + c) false → DroppedChoice T rows s c flags new true
+choice_goes T rows s c flags new l f e = subst (λ xs. DroppedChoice T rows s c flags xs true) (sym e) (record {
+  here = get_or-set_same flags (16 * s + c) false false l ∙ sym (and_right (flag_at flags s c) (leads_back T rows s c) f);
   other = λ i h. get_or-set_other flags (16 * s + c) i false false h;
   still = λ q. absurd (both_ways true q refl);
 })
@@ -59,20 +59,20 @@ still_both : {before then : Bool} {old mid new : List Bool} → (before ≡ fals
 still_both {before = true} f g e = absurd (both_ways true e refl)
 still_both {before = false} f g e = g e ∙ f refl
 
-pub state_none : (T : Table) (words : List ℕ) (s : ℕ) (flags : List Bool) → DroppedState T words s 0 flags flags false
-state_none T words s flags = record {
+pub state_none : (T : Table) (rows : List (List ℕ)) (s : ℕ) (flags : List Bool) → DroppedState T rows s 0 flags flags false
+state_none T rows s flags = record {
   here = λ c h. absurd (let z : c < 0 = h in omega arith);
   other = λ i h. refl;
   still = λ _. refl;
 }
 
-pub state_more : {T : Table} {words : List ℕ} {s k : ℕ} {old mid new : List Bool} {before then : Bool}
-    → DroppedState T words s k old mid before → DroppedChoice T words s k mid new then
-    → DroppedState T words s (k + 1) old new (before || then)
-state_more {T} {words} {s} {k} {old} {mid} {new} {before} d e = record {
+pub state_more : {T : Table} {rows : List (List ℕ)} {s k : ℕ} {old mid new : List Bool} {before then : Bool}
+    → DroppedState T rows s k old mid before → DroppedChoice T rows s k mid new then
+    → DroppedState T rows s (k + 1) old new (before || then)
+state_more {T} {rows} {s} {k} {old} {mid} {new} {before} d e = record {
   here = λ c h. ⊎_elim
       (λ (q : c ≡ k).
-      rw q (e.here ∙ ap (λ (x : Bool). x && leads_back T words s k) (d.other (16 * s + k) (inr (omega arith)))))
+      rw q (e.here ∙ ap (λ (x : Bool). x && leads_back T rows s k) (d.other (16 * s + k) (inr (omega arith)))))
       (λ (q : c ≡ k → ⊥). e.other (16 * s + c) (λ z. q (omega arith)) ∙ d.here c (omega arith))
       (cases_eq c k);
   other = λ i h. ⊎_elim
@@ -81,21 +81,21 @@ state_more {T} {words} {s} {k} {old} {mid} {new} {before} d e = record {
   still = still_both {before = before} d.still e.still;
 }
 
-pub all_none : (T : Table) (words : List ℕ) (flags : List Bool) → DroppedAll T words 0 flags flags false
-all_none T words flags = record {
+pub all_none : (T : Table) (rows : List (List ℕ)) (flags : List Bool) → DroppedAll T rows 0 flags flags false
+all_none T rows flags = record {
   here = λ s c h. absurd (let z : s < 0 = h in omega arith);
   other = λ i h. refl;
   still = λ _. refl;
 }
 
-pub all_more : {T : Table} {words : List ℕ} {k : ℕ} {old mid new : List Bool} {before then : Bool} → Lawful T → k < T.states
-    → DroppedAll T words k old mid before → DroppedState T words k (T.choices k) mid new then
-    → DroppedAll T words (k + 1) old new (before || then)
-all_more {T} {words} {k} {old} {mid} {new} {before} law hk d e = record {
+pub all_more : {T : Table} {rows : List (List ℕ)} {k : ℕ} {old mid new : List Bool} {before then : Bool} → Lawful T → k < T.states
+    → DroppedAll T rows k old mid before → DroppedState T rows k (T.choices k) mid new then
+    → DroppedAll T rows (k + 1) old new (before || then)
+all_more {T} {rows} {k} {old} {mid} {new} {before} law hk d e = record {
   here = λ s c h l. ⊎_elim
       (λ (q : s ≡ k).
       let l' : c < T.choices k = rw q at l in
-      rw q (e.here c l' ∙ ap (λ (x : Bool). x && leads_back T words k c) (d.other (16 * k + c) (omega arith))))
+      rw q (e.here c l' ∙ ap (λ (x : Bool). x && leads_back T rows k c) (d.other (16 * k + c) (omega arith))))
       (λ (q : s ≡ k → ⊥).
       let few = (law.choices s (omega arith)).1 in
       e.other (16 * s + c) (inl (omega arith)) ∙ d.here s c (omega arith) l)
@@ -111,14 +111,14 @@ every_same : (n : ℕ) (p q : ℕ → Bool) → ((i : ℕ) → i < n → p i ≡
 every_same zero p q h = refl
 every_same (suc n) p q h = ap₂ (λ (x y : Bool). x && y) (every_same n p q (λ i l. h i (omega arith))) (h n (omega arith))
 
-pub passed : (T : Table) → Lawful T → (words : List ℕ) (old new : List Bool) (changed : Bool)
-    → Shows T.states words (reach T (flag_at old)) → DroppedAll T words T.states old new changed → Passed T old new changed
+pub passed : (T : Table) → Lawful T → (rows : List (List ℕ)) (old new : List Bool) (changed : Bool)
+    → Shows T.states rows (reach T (flag_at old)) → DroppedAll T rows T.states old new changed → Passed T old new changed
 unfolding pass
-passed T law words old new changed w d = record {
+passed T law rows old new changed w d = record {
   kept = λ s c p.
       d.here s c p.state p.choice
       ∙ ap (λ (x : Bool). flag_at old s c && x)
-      (every_same (T.branches s c) (λ b. bit_at words (successor T s c b) s) (λ b. reach T (flag_at old) (successor T s c b) s)
+      (every_same (T.branches s c) (λ b. bit_at rows (successor T s c b) s) (λ b. reach T (flag_at old) (successor T s c b) s)
       (λ b h. w (successor T s c b) s (within law p h) p.state))
       ∙ sym (grid_at T.states T.choices (λ x y. flag_at old x y && every (T.branches x y) (λ b. reach T (flag_at old) (successor T x y b) x))
       s c p.state p.choice);

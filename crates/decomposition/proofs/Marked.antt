@@ -1,5 +1,5 @@
 -- Bits that are set in a row, one after another, and Warshall's rule on bits.
-use Rattle.std.proofs.Common.{◌≡◌, ℕ, zero, suc, ◌+◌, ◌*◌, ◌/◌, ◌%◌, ◌^◌, ◌<◌, ◌≤◌, Bool, true, false, ◌&&◌, ◌||◌, eqb, List, get_or, replicate, sym, refl, ap, ◌∙◌, ap₂, ⊎_elim, add-one, arith}
+use Rattle.std.proofs.Common.{◌≡◌, ℕ, zero, suc, ◌+◌, ◌/◌, ◌%◌, ◌^◌, ◌<◌, ◌≤◌, Bool, true, false, ◌&&◌, ◌||◌, eqb, List, [], get_or, replicate, sym, refl, ap, ◌∙◌, ap₂, ⊎_elim, add-one, arith}
 use native.Mathlib.Nat.{zero-div}
 use Rattle.std.proofs.lemmas.List.{get_or_past, get_or-replicate, length-replicate}
 use Rattle.std.proofs.lemmas.Bool.{cases_eq, cases_lt, eq-eqb, ne_eqb}
@@ -8,7 +8,7 @@ use Rattle.components.specs.Below.{any, every}
 use Rattle.components.specs.EndComponent.{Choices}
 use Rattle.components.specs.Inside.{leads, via, reach}
 use Rattle.components.proofs.Below.{grid_at}
-use Rattle.decomposition.specs.Bits.{bit_of, bit_at, Marks}
+use Rattle.decomposition.specs.Bits.{bit_of, bit_in, bit_at, Marks}
 use Rattle.decomposition.specs.Marking.{branch_to, one_step, Shows, through, closure}
 
 pub any_more : (k : ℕ) (p : ℕ → Bool) → any (k + 1) p ≡ (any k p || p k)
@@ -35,18 +35,18 @@ or_join true e p q = refl
 or_join false true p q = refl
 or_join false false p q = refl
 
-pub marks_none : (words : List ℕ) (row : ℕ) → Marks words words row (λ t. false)
-marks_none words row r t h = or_nothing (bit_at words r t) (eqb r row)
+pub marks_none : (rows : List (List ℕ)) (row : ℕ) → Marks rows rows row (λ t. false)
+marks_none rows row r t h = or_nothing (bit_at rows r t) (eqb r row)
 
-pub marks_join : (a b c : List ℕ) (row : ℕ) (p q : ℕ → Bool) → Marks a b row p → Marks b c row q → Marks a c row (λ t. p t || q t)
+pub marks_join : (a b c : List (List ℕ)) (row : ℕ) (p q : ℕ → Bool) → Marks a b row p → Marks b c row q → Marks a c row (λ t. p t || q t)
 marks_join a b c row p q m n r t h =
     n r t h ∙ ap (λ (x : Bool). x || (eqb r row && q t)) (m r t h) ∙ or_join (bit_at a r t) (eqb r row) (p t) (q t)
 
-pub marks_ext : (a b : List ℕ) (row : ℕ) (p q : ℕ → Bool) → ((t : ℕ) → p t ≡ q t) → Marks a b row p → Marks a b row q
+pub marks_ext : (a b : List (List ℕ)) (row : ℕ) (p q : ℕ → Bool) → ((t : ℕ) → p t ≡ q t) → Marks a b row p → Marks a b row q
 marks_ext a b row p q e m r t h = m r t h ∙ ap (λ (x : Bool). bit_at a r t || (eqb r row && x)) (e t)
 
 -- one more branch of a choice
-pub branch_more : (T : Table) (s c b u : ℕ) (old now next : List ℕ)
+pub branch_more : (T : Table) (s c b u : ℕ) (old now next : List (List ℕ))
     → Marks old now s (λ t. any b (λ d. eqb (successor T s c d) t)) → Marks now next s (λ t. eqb t u) → u ≡ successor T s c b
     → Marks old next s (λ t. any (b + 1) (λ d. eqb (successor T s c d) t))
 branch_more T s c b u old now next m n e =
@@ -60,7 +60,7 @@ branch_more T s c b u old now next m n e =
 abbrev pub by_choices : Table → Choices → ℕ → ℕ → ℕ → Bool
 by_choices T A s k t = any k (λ c. A s c && branch_to T s c t)
 
-pub choice_kept : (T : Table) (A : Choices) (s k : ℕ) (old now next : List ℕ) → A s k ≡ true
+pub choice_kept : (T : Table) (A : Choices) (s k : ℕ) (old now next : List (List ℕ)) → A s k ≡ true
     → Marks old now s (by_choices T A s k) → Marks now next s (branch_to T s k) → Marks old next s (by_choices T A s (k + 1))
 choice_kept T A s k old now next e m n =
     marks_ext old next s (λ t. by_choices T A s k t || branch_to T s k t) (by_choices T A s (k + 1))
@@ -73,7 +73,7 @@ or_false : (x : Bool) → x ≡ (x || false)
 or_false true = refl
 or_false false = refl
 
-pub choice_dropped : (T : Table) (A : Choices) (s k : ℕ) (old now : List ℕ) → A s k ≡ false
+pub choice_dropped : (T : Table) (A : Choices) (s k : ℕ) (old now : List (List ℕ)) → A s k ≡ false
     → Marks old now s (by_choices T A s k) → Marks old now s (by_choices T A s (k + 1))
 choice_dropped T A s k old now e m =
     marks_ext old now s (by_choices T A s k) (by_choices T A s (k + 1))
@@ -82,7 +82,7 @@ choice_dropped T A s k old now e m =
     ∙ ap (λ (x : Bool). by_choices T A s k t || (x && branch_to T s k t)) (sym e)
     ∙ sym (any_more k (λ c. A s c && branch_to T s c t))) m
 
-pub state_marked : (T : Table) (A : Choices) (s : ℕ) (old now next : List ℕ)
+pub state_marked : (T : Table) (A : Choices) (s : ℕ) (old now next : List (List ℕ))
     → Marks old now s (λ t. eqb t s) → Marks now next s (by_choices T A s (T.choices s)) → Marks old next s (one_step T A s)
 state_marked T A s old now next m n =
     marks_ext old next s (λ t. eqb t s || leads T A s t) (one_step T A s)
@@ -90,19 +90,19 @@ state_marked T A s old now next m n =
     (marks_join old now next s (λ t. eqb t s) (leads T A s) m n)
 
 -- the rows before k are marked, the others clear
-pub record Rows (T : Table) (A : Choices) (k : ℕ) (words : List ℕ) : Type 0 where
-  pub done : (r t : ℕ) → t < 256 → r < k → bit_at words r t ≡ one_step T A r t
-  pub rest : (r t : ℕ) → t < 256 → k ≤ r → bit_at words r t ≡ false
+pub record Rows (T : Table) (A : Choices) (k : ℕ) (rows : List (List ℕ)) : Type 0 where
+  pub done : (r t : ℕ) → t < 256 → r < k → bit_at rows r t ≡ one_step T A r t
+  pub rest : (r t : ℕ) → t < 256 → k ≤ r → bit_at rows r t ≡ false
 
-pub rows_none : (T : Table) (A : Choices) (words : List ℕ) → ((r t : ℕ) → bit_at words r t ≡ false) → Rows T A 0 words
-rows_none T A words h = record {
+pub rows_none : (T : Table) (A : Choices) (rows : List (List ℕ)) → ((r t : ℕ) → bit_at rows r t ≡ false) → Rows T A 0 rows
+rows_none T A rows h = record {
   done = λ r t l k. absurd (let z : r < 0 = k in omega arith);
   rest = λ r t l k. h r t;
 }
 
-pub rows_more : (T : Table) (A : Choices) (k : ℕ) (words next : List ℕ) → Rows T A k words → Marks words next k (one_step T A k)
+pub rows_more : (T : Table) (A : Choices) (k : ℕ) (rows next : List (List ℕ)) → Rows T A k rows → Marks rows next k (one_step T A k)
     → Rows T A (k + 1) next
-rows_more T A k words next w m = record {
+rows_more T A k rows next w m = record {
   done = λ r t l h. ⊎_elim
       (λ (e : r ≡ k).
       m r t l
@@ -117,25 +117,25 @@ rows_more T A k words next w m = record {
       m r t l ∙ ap₂ (λ (x y : Bool). x || (y && one_step T A k t)) (w.rest r t l (omega arith)) (ne_eqb r k (λ e. omega arith));
 }
 
-pub rows_all : (T : Table) (A : Choices) (words : List ℕ) → T.states ≤ 256 → Rows T A T.states words → Shows T.states words (one_step T A)
-rows_all T A words l w s t h k = w.done s t (omega arith) h
+pub rows_all : (T : Table) (A : Choices) (rows : List (List ℕ)) → T.states ≤ 256 → Rows T A T.states rows → Shows T.states rows (one_step T A)
+rows_all T A rows l w s t h k = w.done s t (omega arith) h
 
 -- Warshall's rule: the rows before i have the ways through the middle state, the others are as they were
-pub record Passing (n : ℕ) (old now : List ℕ) (middle i : ℕ) : Type 0 where
+pub record Passing (n : ℕ) (old now : List (List ℕ)) (middle i : ℕ) : Type 0 where
   pub done : (s t : ℕ) → s < n → t < 256 → s < i → bit_at now s t ≡ through (bit_at old) middle s t
   pub rest : (s t : ℕ) → s < n → t < 256 → i ≤ s → bit_at now s t ≡ bit_at old s t
 
 -- one more middle state
-pub closing_more : (n : ℕ) (words next : List ℕ) (r : ℕ → ℕ → Bool) (k : ℕ) → k < n → Shows n words (closure r k)
-    → Shows n next (through (bit_at words) k) → Shows n next (closure r (k + 1))
+pub closing_more : (n : ℕ) (rows next : List (List ℕ)) (r : ℕ → ℕ → Bool) (k : ℕ) → k < n → Shows n rows (closure r k)
+    → Shows n next (through (bit_at rows) k) → Shows n next (closure r (k + 1))
 unfolding closure
-closing_more n words next r k h w m s t hs ht =
+closing_more n rows next r k h w m s t hs ht =
     rw add-one
     (m s t hs ht
     ∙ ap₂ (λ (x y : Bool). x || y) (w s t hs ht) (ap₂ (λ (x y : Bool). x && y) (w s k hs h) (w k t h ht)))
 
 -- bits closed by Warshall's rule show what is reached
-module _ (T : Table) (A : Choices) (start : List ℕ) (e : Shows T.states start (one_step T A)) where
+module _ (T : Table) (A : Choices) (start : List (List ℕ)) (e : Shows T.states start (one_step T A)) where
   closure_via : (k : ℕ) → k ≤ T.states → (s t : ℕ) → s < T.states → t < T.states → closure (bit_at start) k s t ≡ via T A k s t
   unfolding closure via
   closure_via zero l s t hs ht =
@@ -145,9 +145,9 @@ module _ (T : Table) (A : Choices) (start : List ℕ) (e : Shows T.states start 
       ap₂ (λ (x y : Bool). x || y) (ih s t hs ht) (ap₂ (λ (x y : Bool). x && y) (ih s k hs l) (ih k t l ht))
       ∙ sym (grid_at T.states (λ _. T.states) (λ x y. via T A k x y || (via T A k x k && via T A k k y)) s t hs ht)
 
-  pub reach_shown : (words : List ℕ) → Shows T.states words (closure (bit_at start) T.states) → Shows T.states words (reach T A)
+  pub reach_shown : (rows : List (List ℕ)) → Shows T.states rows (closure (bit_at start) T.states) → Shows T.states rows (reach T A)
   unfolding reach
-  reach_shown words w s t hs ht = w s t hs ht ∙ closure_via T.states (omega arith) s t hs ht
+  reach_shown rows w s t hs ht = w s t hs ht ∙ closure_via T.states (omega arith) s t hs ht
 
 -- words that are all 0 have no bit
 zeros : (n k : ℕ) → ◌≡◌ {A = ℕ} (get_or (replicate n 0) k 0) 0
@@ -155,9 +155,17 @@ zeros n k =
     ⊎_elim (λ (l : k < n). get_or-replicate n k 0 0 l)
     (λ (l : n ≤ k). let e = length-replicate {A = ℕ} n 0 in get_or_past (replicate n 0) k 0 (omega arith)) (cases_lt k n)
 
-pub cleared : (n : ℕ) (words : List ℕ) → words ≡ replicate n 0 → (r t : ℕ) → bit_at words r t ≡ false
+clear_row : (n t : ℕ) → bit_in (replicate n 0) t ≡ false
 unfolding bit_of
-cleared n words e r t =
-    let i = 4 * r + t / 64 in
-    ap (λ (xs : List ℕ). eqb (get_or xs i 0 / 2 ^ (t % 64) % 2) 1) e
-    ∙ ap (λ (w : ℕ). eqb (w / 2 ^ (t % 64) % 2) 1) (zeros n i) ∙ ap (λ (w : ℕ). eqb (w % 2) 1) (zero-div (2 ^ (t % 64)))
+clear_row n t =
+    ap (λ (w : ℕ). eqb (w / 2 ^ (t % 64) % 2) 1) (zeros n (t / 64)) ∙ ap (λ (w : ℕ). eqb (w % 2) 1) (zero-div (2 ^ (t % 64)))
+
+pub cleared : (n : ℕ) (rows : List (List ℕ)) → rows ≡ replicate n (replicate 4 0) → (r t : ℕ) → bit_at rows r t ≡ false
+cleared n rows e r t =
+    ap (λ (xs : List (List ℕ)). bit_at xs r t) e
+    ∙ ⊎_elim
+    (λ (l : r < n). ap (λ (xs : List ℕ). bit_in xs t) (get_or-replicate n r (replicate 4 0) [] l) ∙ clear_row 4 t)
+    (λ (l : n ≤ r).
+    let m = length-replicate {A = List ℕ} n (replicate 4 0) in
+    ap (λ (xs : List ℕ). bit_in xs t) (get_or_past (replicate n (replicate 4 0)) r [] (omega arith)) ∙ clear_row 0 t)
+    (cases_lt r n)

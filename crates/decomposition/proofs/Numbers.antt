@@ -63,13 +63,13 @@ pushed xs x d f k l h e i j =
 
 module _ (T : Table) (law : Lawful T) where
   -- the bits of a state show its lowest state, and the flags whether it is in a component
-  pub own_bit : (words : List ℕ) → Shows T.states words (reach T (inside T)) → (s : ℕ) → s < T.states → bit_at words s s ≡ true
-  own_bit words w s h = w s s h h ∙ reach_all law h stays
+  pub own_bit : (rows : List (List ℕ)) → Shows T.states rows (reach T (inside T)) → (s : ℕ) → s < T.states → bit_at rows s s ≡ true
+  own_bit rows w s h = w s s h h ∙ reach_all law h stays
 
-  pub low_shown : (words : List ℕ) → Shows T.states words (reach T (inside T)) → (s : ℕ) → s < T.states
-      → first T.states (bit_at words s) ≡ lowest T s
+  pub low_shown : (rows : List (List ℕ)) → Shows T.states rows (reach T (inside T)) → (s : ℕ) → s < T.states
+      → first T.states (bit_at rows s) ≡ lowest T s
   unfolding lowest
-  low_shown words w s h = first_same T.states (bit_at words s) (reach T (inside T) s) (λ t l. w s t h l)
+  low_shown rows w s h = first_same T.states (bit_at rows s) (reach T (inside T) s) (λ t l. w s t h l)
 
   pub flags_shown : (flags : List Bool) → Flagged T flags (inside T) → (s : ℕ) → s < T.states
       → any (T.choices s) (flag_at flags s) ≡ in_component T s

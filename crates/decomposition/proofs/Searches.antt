@@ -1,7 +1,8 @@
 -- What chains over the numbers below a count give.
-use Rattle.std.proofs.Common.{◌≡◌, ℕ, zero, suc, ◌+◌, ◌*◌, ◌<◌, ◌≤◌, Bool, true, false, ◌&&◌, ◌||◌, List, [], ◌∷◌, ◌++◌, length, get_or, unwrap_or, Some, None, Option, MatchOption, sym, refl, ap, ◌∙◌, ap₂, arith}
+use Rattle.std.proofs.Common.{◌≡◌, ℕ, zero, suc, ◌+◌, ◌*◌, ◌<◌, ◌≤◌, Bool, true, false, ◌&&◌, ◌||◌, List, [], ◌∷◌, ◌++◌, length, get_or, take, unwrap_or, Some, None, Option, MatchOption, sym, refl, ap, ◌∙◌, ap₂, arith}
 use Rattle.std.specs.List.{range_with_len, list_any, list_all, sum_by, AllWithin, HoldsAt}
-use Rattle.std.proofs.lemmas.List.Folds.{list_any-append, list_all-append}
+use Rattle.std.proofs.lemmas.List.Folds.{list_any-append, list_all_more}
+use Rattle.std.proofs.Math.Seq.{take-length}
 use Rattle.std.proofs.lemmas.List.FromFn.{length-range_with_len, get_or-range_with_len}
 use Rattle.std.proofs.lemmas.List.Sums.{sum_by-append}
 use Rattle.table.specs.Sums.{sum_n}
@@ -21,10 +22,6 @@ or_false : (x : Bool) → (x || false) ≡ x
 or_false true = refl
 or_false false = refl
 
-and_true : (x : Bool) → (x && true) ≡ x
-and_true true = refl
-and_true false = refl
-
 pub any_counted : (n : ℕ) (p : ℕ → Bool) → list_any p (range_with_len 0 n) ≡ any n p
 any_counted zero p = refl
 any_counted (suc n) p =
@@ -32,12 +29,22 @@ any_counted (suc n) p =
     ap (list_any p) (counted_more 0 n) ∙ list_any-append p (range_with_len 0 n) ((0 + n) ∷ [])
     ∙ ap₂ (λ (x y : Bool). x || y) (any_counted n p) (or_false (p (0 + n)) ∙ ap p e)
 
-pub every_counted : (n : ℕ) (p : ℕ → Bool) → list_all p (range_with_len 0 n) ≡ every n p
-every_counted zero p = refl
-every_counted (suc n) p =
-    let e : 0 + n ≡ n = omega arith in
-    ap (list_all p) (counted_more 0 n) ∙ list_all-append p (range_with_len 0 n) ((0 + n) ∷ [])
-    ∙ ap₂ (λ (x y : Bool). x && y) (every_counted n p) (and_true (p (0 + n)) ∙ ap p e)
+-- a test of the first n elements of a list, place by place
+every_below : {X : Type 0} (test : X → Bool) (xs : List X) (d : X) (n : ℕ) → n ≤ length xs → list_all test (take n xs) ≡ every n (λ b. test (get_or xs b d))
+every_below test xs d zero h = refl
+every_below test xs d (suc n) h =
+    let e : n + 1 ≡ suc n = omega arith in
+    ap (λ (k : ℕ). list_all test (take k xs)) (sym e)
+    ∙ list_all_more test xs n d (omega arith)
+    ∙ ap (λ (x : Bool). x && test (get_or xs n d)) (every_below test xs d n (omega arith))
+
+pub every_listed : {X : Type 0} (test : X → Bool) (xs : List X) (d : X) (n : ℕ) → n ≡ length xs → list_all test xs ≡ every n (λ b. test (get_or xs b d))
+every_listed test xs d n e =
+    ap (list_all test) (sym (ap (λ (k : ℕ). take k xs) e ∙ take-length xs)) ∙ every_below test xs d n (omega arith)
+
+pub every_ext : (n : ℕ) (p q : ℕ → Bool) → ((k : ℕ) → k < n → p k ≡ q k) → every n p ≡ every n q
+every_ext zero p q e = refl
+every_ext (suc n) p q e = ap₂ (λ (x y : Bool). x && y) (every_ext n p q (λ k l. e k (omega arith))) (e n (omega arith))
 
 pub sum_counted : (n : ℕ) (f : ℕ → ℕ) → sum_by f (range_with_len 0 n) ≡ sum_n n f
 sum_counted zero f = refl

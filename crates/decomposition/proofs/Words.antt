@@ -1,11 +1,11 @@
--- The bits of words.
-use Rattle.std.proofs.Common.{◌≡◌, ℕ, zero, suc, ◌+◌, ◌-◌, ◌*◌, ◌/◌, ◌%◌, ◌^◌, ◌<◌, ◌≤◌, Bool, true, false, ◌&&◌, ◌||◌, eqb, ◌⊎◌, List, length, get_or, set, sym, refl, ap, ◌∙◌, ap₂, inl, inr, ⊎_elim, arith}
+-- The bits of words and of rows.
+use Rattle.std.proofs.Common.{◌≡◌, ℕ, zero, suc, ◌+◌, ◌-◌, ◌*◌, ◌/◌, ◌%◌, ◌^◌, ◌<◌, ◌≤◌, Bool, true, false, ◌&&◌, ◌||◌, eqb, ◌⊎◌, List, [], length, get_or, set, sym, refl, ap, ◌∙◌, ap₂, inl, inr, ⊎_elim, arith}
 use native.Mathlib.Nat.{div-eq_of_lt, div_self, mul-mod_left}
 use lib.Bits.{bit_or, or_shr, or_mod}
 use Rattle.std.proofs.lemmas.Nat.{pow_pos, pow-add, pow_below, shl-shr, one_shl}
 use Rattle.std.proofs.lemmas.List.{get_or-set_same, get_or-set_other}
-use Rattle.std.proofs.lemmas.Bool.{cases_order, cases_eq, eq-eqb, ne_eqb, and_from, and_left, and_right}
-use Rattle.decomposition.specs.Bits.{bit_of, bit_at}
+use Rattle.std.proofs.lemmas.Bool.{cases_order, cases_eq, eq-eqb, ne_eqb}
+use Rattle.decomposition.specs.Bits.{bit_of, bit_in, bit_at, Marks}
 
 low : (n : ℕ) → n < 2 → (n ≡ 0) ⊎ (n ≡ 1)
 low zero h = inl refl
@@ -50,99 +50,58 @@ or_false : (x : Bool) → (x || false) ≡ x
 or_false true = refl
 or_false false = refl
 
--- one bit is set, by its word
-set-one : (ws : List ℕ) (row col : ℕ) → col < 256 → 4 * row + 4 ≤ length ws → (r c : ℕ) → c < 256
-    → bit_at (set ws (4 * row + col / 64) (bit_or (get_or ws (4 * row + col / 64) 0) ((1 * 2 ^ (col % 64)) % 2 ^ 64))) r c
-    ≡ (bit_at ws r c || (eqb r row && eqb c col))
-set-one ws row col h l r c k =
+-- one bit is set in a row, by its word
+pub set-bit : (ws : List ℕ) (col : ℕ) → col < 256 → length ws ≡ 4 → (t : ℕ) → t < 256
+    → bit_in (set ws (col / 64) (bit_or (get_or ws (col / 64) 0) ((1 * 2 ^ (col % 64)) % 2 ^ 64))) t ≡ (bit_in ws t || eqb t col)
+set-bit ws col h l t k =
     ⊎_elim
     (λ (q : place ≡ at).
     let same : get_or (set ws at both) place 0 ≡ both = ap (λ (x : ℕ). get_or (set ws at both) x 0) q ∙ get_or-set_same ws at both 0 (omega arith) in
     let old : get_or ws at 0 ≡ get_or ws place 0 = ap (λ (x : ℕ). get_or ws x 0) (sym q) in
-    ap (λ (w : ℕ). bit_of w (c % 64)) same
-    ∙ bit-or (get_or ws at 0) ((1 * 2 ^ (col % 64)) % 2 ^ 64) (c % 64)
-    ∙ ap₂ (λ (w x : ℕ). bit_of w (c % 64) || bit_of x (c % 64)) old (one_shl (col % 64) 64 (omega arith))
-    ∙ ap (λ (x : Bool). bit_at ws r c || x) (bit_one (col % 64) (c % 64) ∙ here q))
+    ap (λ (w : ℕ). bit_of w (t % 64)) same
+    ∙ bit-or (get_or ws at 0) ((1 * 2 ^ (col % 64)) % 2 ^ 64) (t % 64)
+    ∙ ap₂ (λ (w x : ℕ). bit_of w (t % 64) || bit_of x (t % 64)) old (one_shl (col % 64) 64 (omega arith))
+    ∙ ap (λ (x : Bool). bit_in ws t || x) (bit_one (col % 64) (t % 64) ∙ here q))
     (λ (q : place ≡ at → ⊥).
-    ap (λ (w : ℕ). bit_of w (c % 64)) (get_or-set_other ws at place both 0 q)
-    ∙ sym (or_false (bit_at ws r c))
-    ∙ ap (λ (x : Bool). bit_at ws r c || x) (elsewhere q))
+    ap (λ (w : ℕ). bit_of w (t % 64)) (get_or-set_other ws at place both 0 q)
+    ∙ sym (or_false (bit_in ws t))
+    ∙ ap (λ (x : Bool). bit_in ws t || x) (sym (ne_eqb t col (λ f. q (ap (λ (x : ℕ). x / 64) f)))))
     (cases_eq place at)
   where
     at : ℕ
-    at = 4 * row + col / 64
+    at = col / 64
 
     place : ℕ
-    place = 4 * r + c / 64
+    place = t / 64
 
     both : ℕ
     both = bit_or (get_or ws at 0) ((1 * 2 ^ (col % 64)) % 2 ^ 64)
 
-    here : place ≡ at → eqb (c % 64) (col % 64) ≡ (eqb r row && eqb c col)
+    here : place ≡ at → eqb (t % 64) (col % 64) ≡ eqb t col
     here q =
-        let e : r ≡ row = omega arith in
         ⊎_elim
-        (λ (f : c ≡ col).
-        eq-eqb (c % 64) (col % 64) (ap (λ (x : ℕ). x % 64) f) ∙ sym (and_from (eqb r row) (eqb c col) (eq-eqb r row e) (eq-eqb c col f)))
-        (λ (f : c ≡ col → ⊥).
-        ne_eqb (c % 64) (col % 64) (λ g. f (omega arith)) ∙ sym (and_right (eqb r row) (eqb c col) (ne_eqb c col f)))
-        (cases_eq c col)
+        (λ (f : t ≡ col). eq-eqb (t % 64) (col % 64) (ap (λ (x : ℕ). x % 64) f) ∙ sym (eq-eqb t col f))
+        (λ (f : t ≡ col → ⊥). ne_eqb (t % 64) (col % 64) (λ g. f (omega arith)) ∙ sym (ne_eqb t col f))
+        (cases_eq t col)
 
-    elsewhere : (place ≡ at → ⊥) → false ≡ (eqb r row && eqb c col)
-    elsewhere q =
-        ⊎_elim
-        (λ (e : r ≡ row).
-        sym (and_right (eqb r row) (eqb c col) (ne_eqb c col (λ f. q (ap₂ (λ (x y : ℕ). 4 * x + y / 64) e f)))))
-        (λ (e : r ≡ row → ⊥). sym (and_left (eqb r row) (eqb c col) (ne_eqb r row e)))
-        (cases_eq r row)
-
-pub set-bit : (ws : List ℕ) (row col w : ℕ) → w ≡ get_or ws (4 * row + col / 64) 0 → col < 256 → 4 * row + 4 ≤ length ws → (r c : ℕ) → c < 256
-    → bit_at (set ws (4 * row + col / 64) (bit_or w ((1 * 2 ^ (col % 64)) % 2 ^ 64))) r c ≡ (bit_at ws r c || (eqb r row && eqb c col))
-set-bit ws row col w e h l r c k =
-    ap (λ (x : ℕ). bit_at (set ws (4 * row + col / 64) (bit_or x ((1 * 2 ^ (col % 64)) % 2 ^ 64))) r c) e ∙ set-one ws row col h l r c k
-
--- the first j of four words have been added to those of the row `to`
-pub record Ored (old new : List ℕ) (to : ℕ) (row : List ℕ) (j : ℕ) : Type 0 where
-  pub done : (m : ℕ) → m < j → get_or new (4 * to + m) 0 ≡ bit_or (get_or old (4 * to + m) 0) (get_or row m 0)
-  pub rest : (i : ℕ) → ((m : ℕ) → m < j → i ≡ 4 * to + m → ⊥) → get_or new i 0 ≡ get_or old i 0
-
-pub ored_none : (old : List ℕ) (to : ℕ) (row : List ℕ) → Ored old old to row 0
-ored_none old to row = record { done = λ m h. absurd (let z : m < 0 = h in omega arith); rest = λ i h. refl }
-
-apart_rows : (x y m n : ℕ) → (x ≡ y → ⊥) → m < 4 → n < 4 → 4 * x + m ≡ 4 * y + n → ⊥
-apart_rows x y m n f h k q =
-    ⊎_elim (λ (e : x ≡ y). f e) (⊎_elim (λ (l : x < y). omega arith) (λ (l : y < x). omega arith)) (cases_order x y)
-
-pub ored_more : {old new : List ℕ} {to : ℕ} {row : List ℕ} {j : ℕ} → Ored old new to row j → j < 4 → 4 * to + 4 ≤ length new
-    → Ored old (set new (4 * to + j) (bit_or (get_or new (4 * to + j) 0) (get_or row j 0))) to row (j + 1)
-ored_more {old} {new} {to} {row} {j} o h l = record {
-  done = λ m k. ⊎_elim
-      (λ (e : m ≡ j).
-      rw e (get_or-set_same new (4 * to + j) both 0 (omega arith)
-      ∙ ap (λ (x : ℕ). bit_or x (get_or row j 0)) (o.rest (4 * to + j) (λ x y z. omega arith))))
-      (λ (e : m ≡ j → ⊥).
-      get_or-set_other new (4 * to + j) (4 * to + m) both 0 (λ z. e (omega arith)) ∙ o.done m (omega arith))
-      (cases_eq m j);
-  rest = λ i f.
-      get_or-set_other new (4 * to + j) i both 0 (λ z. f j (omega arith) z) ∙ o.rest i (λ m k. f m (omega arith));
-}
-  where
-    both : ℕ
-    both = bit_or (get_or new (4 * to + j) 0) (get_or row j 0)
-
-pub ored_all : {old new : List ℕ} {to : ℕ} {row : List ℕ} → Ored old new to row 4 → (r c : ℕ) → c < 256
-    → bit_at new r c ≡ (bit_at old r c || (eqb r to && bit_at row 0 c))
-ored_all {old} {new} {to} {row} o r c h =
+-- one row has the bits of p besides
+pub row_marked : (rows : List (List ℕ)) (row : ℕ) (new : List ℕ) (p : ℕ → Bool) → row < length rows
+    → ((t : ℕ) → t < 256 → bit_in new t ≡ (bit_in (get_or rows row []) t || p t)) → Marks rows (set rows row new) row p
+row_marked rows row new p l h r t k =
     ⊎_elim
-    (λ (e : r ≡ to).
-    let m = c / 64 in
-    let z : c / 64 ≡ 4 * 0 + c / 64 = omega arith in
-    rw e (ap (λ (w : ℕ). bit_of w (c % 64)) (o.done m (omega arith))
-    ∙ bit-or (get_or old (4 * to + m) 0) (get_or row m 0) (c % 64)
-    ∙ ap (λ (i : ℕ). bit_at old to c || bit_of (get_or row i 0) (c % 64)) z
-    ∙ ap (λ (x : Bool). bit_at old to c || (x && bit_at row 0 c)) (sym (eq-eqb to to refl))))
-    (λ (e : r ≡ to → ⊥).
-    ap (λ (w : ℕ). bit_of w (c % 64)) (o.rest (4 * r + c / 64) (λ m k q. apart_rows r to (c / 64) m e (omega arith) k q))
-    ∙ sym (or_false (bit_at old r c))
-    ∙ ap (λ (x : Bool). bit_at old r c || (x && bit_at row 0 c)) (sym (ne_eqb r to e)))
-    (cases_eq r to)
+    (λ (e : r ≡ row).
+    rw e (ap (λ (xs : List ℕ). bit_in xs t) (get_or-set_same rows row new [] l)
+    ∙ h t k ∙ ap (λ (x : Bool). bit_at rows row t || (x && p t)) (sym (eq-eqb row row refl))))
+    (λ (e : r ≡ row → ⊥).
+    ap (λ (xs : List ℕ). bit_in xs t) (get_or-set_other rows row r new [] e)
+    ∙ sym (or_false (bit_at rows r t)) ∙ ap (λ (x : Bool). bit_at rows r t || (x && p t)) (sym (ne_eqb r row e)))
+    (cases_eq r row)
+
+-- the words before j have those of another row besides
+pub record Ored (old new other : List ℕ) (j : ℕ) : Type 0 where
+  pub done : (m : ℕ) → m < j → get_or new m 0 ≡ bit_or (get_or old m 0) (get_or other m 0)
+  pub rest : (m : ℕ) → j ≤ m → get_or new m 0 ≡ get_or old m 0
+
+pub ored_all : {old new other : List ℕ} → Ored old new other 4 → (t : ℕ) → t < 256 → bit_in new t ≡ (bit_in old t || bit_in other t)
+ored_all {old} {new} {other} o t h =
+    ap (λ (w : ℕ). bit_of w (t % 64)) (o.done (t / 64) (omega arith)) ∙ bit-or (get_or old (t / 64) 0) (get_or other (t / 64) 0) (t % 64)

@@ -14,20 +14,20 @@ abbrev pub AllSet : Table → List Bool → Type 0
 AllSet T flags = (s c : ℕ) → Choice T s c → flag_at flags s c ≡ true
 
 -- the choice c of s is dropped unless it leads back; changed says whether it was
-pub record DroppedChoice (T : Table) (words : List ℕ) (s c : ℕ) (old new : List Bool) (changed : Bool) : Type 0 where
-  pub here : flag_at new s c ≡ (flag_at old s c && leads_back T words s c)
+pub record DroppedChoice (T : Table) (rows : List (List ℕ)) (s c : ℕ) (old new : List Bool) (changed : Bool) : Type 0 where
+  pub here : flag_at new s c ≡ (flag_at old s c && leads_back T rows s c)
   pub other : (i : ℕ) → (i ≢ 16 * s + c) → slice_index_or new i false ≡ slice_index_or old i false
   pub still : changed ≡ false → new ≡ old
 
 -- the same for the choices of s before k
-pub record DroppedState (T : Table) (words : List ℕ) (s k : ℕ) (old new : List Bool) (changed : Bool) : Type 0 where
-  pub here : (c : ℕ) → c < k → flag_at new s c ≡ (flag_at old s c && leads_back T words s c)
+pub record DroppedState (T : Table) (rows : List (List ℕ)) (s k : ℕ) (old new : List Bool) (changed : Bool) : Type 0 where
+  pub here : (c : ℕ) → c < k → flag_at new s c ≡ (flag_at old s c && leads_back T rows s c)
   pub other : (i : ℕ) → (i < 16 * s) ⊎ (16 * s + k ≤ i) → slice_index_or new i false ≡ slice_index_or old i false
   pub still : changed ≡ false → new ≡ old
 
 -- the same for the choices of the states before k
-pub record DroppedAll (T : Table) (words : List ℕ) (k : ℕ) (old new : List Bool) (changed : Bool) : Type 0 where
-  pub here : (s c : ℕ) → s < k → c < T.choices s → flag_at new s c ≡ (flag_at old s c && leads_back T words s c)
+pub record DroppedAll (T : Table) (rows : List (List ℕ)) (k : ℕ) (old new : List Bool) (changed : Bool) : Type 0 where
+  pub here : (s c : ℕ) → s < k → c < T.choices s → flag_at new s c ≡ (flag_at old s c && leads_back T rows s c)
   pub other : (i : ℕ) → 16 * k ≤ i → slice_index_or new i false ≡ slice_index_or old i false
   pub still : changed ≡ false → new ≡ old
 

@@ -19,12 +19,12 @@ abbrev pub one_step : Table → Choices → ℕ → ℕ → Bool
 one_step T A s t = s == t || leads T A s t
 
 -- each successor of the choice c of s reaches s, by these bits
-abbrev pub leads_back : Table → List ℕ → ℕ → ℕ → Bool
-leads_back T words s c = every (T.branches s c) (λ b. bit_at words (successor T s c b) s)
+abbrev pub leads_back : Table → List (List ℕ) → ℕ → ℕ → Bool
+leads_back T rows s c = every (T.branches s c) (λ b. bit_at rows (successor T s c b) s)
 
 -- the rows of the states of a table: what r says of each two states
-abbrev pub Shows : ℕ → List ℕ → (ℕ → ℕ → Bool) → Type 0
-Shows n words r = (s t : ℕ) → s < n → t < n → bit_at words s t ≡ r s t
+abbrev pub Shows : ℕ → List (List ℕ) → (ℕ → ℕ → Bool) → Type 0
+Shows n rows r = (s t : ℕ) → s < n → t < n → bit_at rows s t ≡ r s t
 
 -- r with the ways through the state k
 abbrev pub through : (ℕ → ℕ → Bool) → ℕ → ℕ → ℕ → Bool

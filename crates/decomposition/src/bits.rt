@@ -1,24 +1,45 @@
-ghost use Rattle.std.specs.Prelude.{◌≡◌, ℕ, ◌+◌, ◌*◌, ◌<◌, ◌≤◌, false, length, replicate, IfOk, nat_eq};
-ghost use Rattle.decomposition.specs.Bits.{bit_at, Marks};
+ghost use Rattle.std.specs.Prelude.{◌≡◌, ℕ, ◌<◌, ◌||◌, false, length, replicate, IfOk, nat_eq};
+ghost use Rattle.decomposition.specs.Bits.{bit_in, bit_at, Marks};
 
 use std::alloc::{AllocError, Global};
 
-const ALL_WORDS: usize = 1024;
+const ALL_ROWS: usize = 256;
 
-// A square of bits, 256 to a row, in four words of 64.
+// A row of 256 bits, in four words of 64.
+pub(crate) type Row = [u64; 4];
+
+// Whether a bit of a row is set.
+pub(crate) fn bit_in(row: &Row, column: u32) -> bool
+    requires { column < 256 }
+    ensures { result ≡ bit_in row.now column }
+{
+    (row[column as usize / 64] >> (column % 64)) & 1 == 1
+}
+
+// Sets in a row each bit that is set in another. The other's words are read by their places: over `iter_mut().zip(other)`,
+// which was tried, nothing is known of the words after the loop.
+pub(crate) fn add_row(row: &mut Row, other: &Row)
+    ensures { (t : ℕ) → t < 256 → bit_in row.new t ≡ (bit_in row.old t || bit_in other.now t) }
+{
+    for (j, word) in row.iter_mut().enumerate() {
+        *word |= other[j];
+    }
+}
+
+// A square of bits, 256 rows.
 #[derive(Drop)]
 pub(crate) struct Square {
-    pub(crate) words: Vec<u64>,
-    ghost size: { length words.items ≡ 1024 },
+    pub(crate) rows: Vec<Row>,
+    ghost size: { length rows.items ≡ 256 },
 }
 
 impl Square {
     // One with all bits clear.
     pub(crate) fn new(heap: Global) -> Result<Square, AllocError>
-        ensures { IfOk result (λ square. square.words.items ≡ replicate 1024 0) }
+        ensures { IfOk result (λ square. square.rows.items ≡ replicate 256 (replicate 4 0)) }
     {
         Ok(Square {
-            words: vec![in heap; 0; ALL_WORDS]?,
+            rows: vec![in heap; [0; 4]; ALL_ROWS]?,
         })
     }
 
@@ -26,50 +47,24 @@ impl Square {
     pub(crate) fn bit(&self, row: u32, column: u32) -> bool
         requires row { row < 256 }
         requires column { column < 256 }
-        ensures { result ≡ bit_at self.now.words.items row column }
+        ensures { result ≡ bit_at self.now.rows.items row column }
     {
-        (self.words[4 * row as usize + column as usize / 64] >> (column % 64)) & 1 == 1
-    }
-
-    // The four words of a row.
-    pub(crate) fn row(&self, row: u32) -> [u64; 4]
-        requires { row < 256 }
-        ensures size { length result ≡ 4 }
-        ensures bits { (t : ℕ) → t < 256 → bit_at result 0 t ≡ bit_at self.now.words.items row t }
-    {
-        let start = 4 * row as usize;
-        [
-            self.words[start],
-            self.words[start + 1],
-            self.words[start + 2],
-            self.words[start + 3],
-        ]
-    }
-
-    // Sets in a row each bit that is set in these four words. They are written by their places: over
-    // `iter_mut().zip(row)`, which was tried, a loop's invariant cannot speak of the words that it writes.
-    pub(crate) fn add_row(&mut self, to: u32, row: &[u64; 4])
-        requires { to < 256 }
-        ensures { Marks self.old.words.items self.new.words.items to (bit_at row.now 0) }
-    {
-        for (j, word) in row.iter().enumerate() {
-            self.words[4 * to as usize + j] |= *word;
-        }
+        bit_in(&self.rows[row as usize], column)
     }
 
     // Sets a bit.
     pub(crate) fn set(&mut self, row: u32, column: u32)
         requires row { row < 256 }
         requires column { column < 256 }
-        ensures { Marks self.old.words.items self.new.words.items row (λ t. nat_eq t column) }
+        ensures { Marks self.old.rows.items self.new.rows.items row (λ t. nat_eq t column) }
     {
-        self.words[4 * row as usize + column as usize / 64] |= 1 << (column % 64);
+        self.rows[row as usize][column as usize / 64] |= 1 << (column % 64);
     }
 
     // Clears all bits.
     pub(crate) fn clear(&mut self)
-        ensures { (r t : ℕ) → bit_at self.new.words.items r t ≡ false }
+        ensures { (r t : ℕ) → bit_at self.new.rows.items r t ≡ false }
     {
-        self.words.fill(0);
+        self.rows.fill([0; 4]);
     }
 }

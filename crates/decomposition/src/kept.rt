@@ -3,9 +3,10 @@ ghost use Rattle.decomposition.specs.Marking.{flag_at};
 
 use std::alloc::{AllocError, Global};
 
+// How many flags a set has: 16 to each of 256 states. This is its size, and no limit of a table, which `table` checks.
 const ALL_FLAGS: usize = 4096;
 
-// How many flags each state has.
+// How many flags each state has: a size too.
 pub(crate) const MOST_CHOICES: u32 = 16;
 
 // The place of a choice among the flags.
@@ -15,7 +16,8 @@ pub(crate) fn place(state: u32, choice: u32) -> usize
     MOST_CHOICES as usize * state as usize + choice as usize
 }
 
-// A set of choices, by a flag for each: 16 to a state, of 256 states.
+// A set of choices, by a flag for each: 16 to a state, of 256 states. They lie flat: the first of them go on as they are, into
+// the parts and from there into an engine's layout.
 #[derive(Drop)]
 pub(crate) struct Kept {
     pub(crate) flags: Vec<bool>,

@@ -26,8 +26,8 @@ pub(crate) fn count_choices(model: &Model) -> usize
 fn lowest_state(square: &Square, states: u32, state: u32) -> u32
     requires few { states ≤ 256 }
     requires within { state < states }
-    requires itself { bit_at square.now.words.items state state ≡ true }
-    ensures { result ≡ first states (bit_at square.now.words.items state) }
+    requires itself { bit_at square.now.rows.items state state ≡ true }
+    ensures { result ≡ first states (bit_at square.now.rows.items state) }
 {
     (0..state)
         .find(|other| square.bit(state, *other))

@@ -7,7 +7,6 @@ ghost use Rattle.decomposition.specs.Dropping.{Flagged};
 use crate::bits::Square;
 use crate::kept::Kept;
 use crate::passes::settle;
-use crate::reach::mark_reach;
 use model::Model;
 use std::alloc::{AllocError, Global};
 
@@ -18,7 +17,7 @@ pub(crate) struct TakenApart<'a> {
     pub(crate) kept: Kept,
     pub(crate) square: Square,
     ghost kept_is: { Flagged (table_of model.now) kept.flags.items (inside (table_of model.now)) },
-    ghost reached: { Shows (table_of model.now).states square.words.items (reach (table_of model.now) (inside (table_of model.now))) },
+    ghost reached: { Shows (table_of model.now).states square.rows.items (reach (table_of model.now) (inside (table_of model.now))) },
 }
 
 impl<'a> TakenApart<'a> {
@@ -29,7 +28,6 @@ impl<'a> TakenApart<'a> {
         let mut kept = Kept::all(heap)?;
         let mut square = Square::new(heap)?;
         settle(model, &mut kept, &mut square);
-        mark_reach(model, &kept, &mut square);
         Ok(TakenApart {
             model,
             kept,

@@ -74,6 +74,7 @@ impl Engine {
 
     // A rule of this project: a refine, and each call below, takes the pair of numbers that standing answers by `let .. else`.
     // Where that is a refusal, the call is refused as idle, whatever the open was refused with.
+    // Their clauses are alike, what a call answers and what the engine holds then, but each names its own call.
 
     // Steps made in the component, its lo and its hi then.
     pub fn refine(

@@ -120,7 +120,7 @@ impl<'a> Lists<'a> {
         used.branches += count;
     }
 
-    // Puts a record.
+    // Puts a record. One match over the kinds of record: each goes into another list.
     pub(crate) fn place(&mut self, item: &Record)
         requires { AtMost 65536 self.old (fields_of item.now) }
         ensures lists { tally_of self.new ≡ placed (tally_of self.old) (fields_of item.now) }

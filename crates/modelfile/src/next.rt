@@ -26,6 +26,7 @@ impl<'a> Reader<'a> {
     // The next record, or none at the end of the file. A refusal leaves the reader where it stood.
     // Not `Iterator::next`: after a refusal each call refuses again, so its items would never end, and a `for` wants an end.
     // A second type that ends there would need a flag of its own, for one `while let`.
+    // One match over what is due, since that alone says which record stands next: the file has no letter for it.
     pub fn next(&mut self) -> Result<Option<Record<'a>>, FileFault>
         ensures step { handed result self.new ≡ step self.old.cursor.file.now (cursor_of self.old) }
         ensures file { self.new.cursor.file.now ≡ self.old.cursor.file.now }

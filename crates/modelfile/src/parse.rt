@@ -6,12 +6,12 @@ use crate::cursor::ByteCursor;
 use crate::fault::RecordFault;
 use crate::record::{Choice, Header, State};
 
-// The bits of a header's bit map.
+// The bits of a header's bit map: which of these two fields it has.
 const DENOMINATOR: u32 = 1;
 
 const NAME: u32 = 2;
 
-// The bits of a choice's bit map.
+// The bits of a choice's bit map: which of these three fields it has.
 const REWARD: u32 = 1;
 
 const BRANCHES: u32 = 2;
@@ -32,6 +32,7 @@ impl<'a> ByteCursor<'a> {
         Ok(map)
     }
 
+    // The record that a file begins with: its bit map, the fields that this names, and how many states follow.
     pub(crate) fn header(&mut self) -> Result<Header<'a>, RecordFault>
         ensures { ReadsOn header_of header self.old self.new result }
     {
@@ -43,6 +44,7 @@ impl<'a> ByteCursor<'a> {
         })
     }
 
+    // The record of a state, which has no bit map: how many choices follow.
     pub(crate) fn state(&mut self) -> Result<State, RecordFault>
         ensures { ReadsOn (λ s. s.choices) state self.old self.new result }
     {
@@ -51,6 +53,7 @@ impl<'a> ByteCursor<'a> {
         })
     }
 
+    // The record of a choice: its bit map, and the fields that this names.
     pub(crate) fn choice(&mut self) -> Result<Choice<'a>, RecordFault>
         ensures { ReadsOn choice_of choice self.old self.new result }
     {

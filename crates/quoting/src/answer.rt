@@ -30,7 +30,8 @@ impl Console {
     }
 }
 
-// Makes the call of the command that stands on line `line`, and answers it.
+// Makes the call of the command that stands on line `line`, and answers it. One match over the kinds of command: each makes
+// another call, whose answer holds other numbers.
 fn perform(
     heap: Global,
     engine: &mut Engine,

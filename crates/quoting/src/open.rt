@@ -12,7 +12,8 @@ use engine::Engine;
 use sources::{ChoiceRow, StateRow};
 use std::alloc::{AllocError, Global};
 
-// A file with more rows than these is refused with the number 26.
+// A file with more rows than these is refused with the number 26. They are limits of a whole file, and not those of a table,
+// which say how many choices a state and how many branches a choice may have.
 pub(crate) const MOST_STATES: usize = 256;
 
 const MOST_CHOICES: usize = 1024;

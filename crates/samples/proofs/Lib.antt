@@ -1,0 +1,5 @@
+pub mod Numbered
+pub mod Fair
+pub mod Added
+pub mod Large
+pub mod Exported

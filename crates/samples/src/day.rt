@@ -2,6 +2,7 @@ ghost use Rattle.std.specs.Prelude.{◌≡◌, Some};
 ghost use Rattle.table.specs.Walk.{fault_of};
 ghost use Rattle.table.specs.declared.fault.Fault.TheVariants.{Sum};
 ghost use Rattle.sources.specs.Rows.{list_table};
+ghost use Rattle.samples.specs.Export.{export_table, SameInside};
 
 use sources::{ChoiceRow, List, StateRow};
 
@@ -76,7 +77,8 @@ const BRANCHES: [(u32, u32); 14] = [
 
 // The band of the day as a system wrote it out. Its first broken limit: the weights of holding at state 3 do not add up.
 pub fn export() -> List<'static>
-    ensures { fault_of (list_table result.denominator result.states.now result.choices.now result.branches.now) ≡ Some (Sum 3 0) }
+    ensures fault { fault_of (list_table result.denominator result.states.now result.choices.now result.branches.now) ≡ Some (Sum 3 0) }
+    ensures table { SameInside (list_table result.denominator result.states.now result.choices.now result.branches.now) export_table }
 {
     List::new(4, &STATES, &CHOICES, &BRANCHES)
 }

@@ -1,4 +1,6 @@
-use anyhow::anyhow;
+use anyhow::Context;
+
+const TOO_EARLY: &str = "the case file ends too early";
 
 // The bytes of a case file that are still to be read.
 #[derive(Drop)]
@@ -7,9 +9,7 @@ pub(crate) struct CaseFile<'a>(pub(crate) &'a [u8]);
 impl<'a> CaseFile<'a> {
     // As many bytes as are wanted.
     fn bytes<const N: usize>(&mut self) -> anyhow::Result<[u8; N]> {
-        let Some((bytes, rest)) = self.0.split_first_chunk() else {
-            return Err(anyhow!("the case file ends too early"));
-        };
+        let (bytes, rest) = self.0.split_first_chunk().context(TOO_EARLY)?;
         self.0 = rest;
         Ok(*bytes)
     }
@@ -31,9 +31,7 @@ impl<'a> CaseFile<'a> {
     // A text: its length in four bytes, then its bytes.
     pub(crate) fn text(&mut self) -> anyhow::Result<&'a [u8]> {
         let length = self.word()? as usize;
-        let Some((text, rest)) = self.0.split_at_checked(length) else {
-            return Err(anyhow!("the case file ends too early"));
-        };
+        let (text, rest) = self.0.split_at_checked(length).context(TOO_EARLY)?;
         self.0 = rest;
         Ok(text)
     }

@@ -22,16 +22,21 @@ fn run(rt: &HostRuntime) -> anyhow::Result<()> {
     let bytes = fs::read(rt, "cases.bin")?;
     let mut file = CaseFile(&bytes);
     for number in 1..=file.word()? {
-        let kind = file.byte()?;
+        let letter = file.byte()?;
         let group = str::from_utf8(file.text()?)?;
         println!(rt; "case {number} {group}")?;
-        match kind {
-            b'Q' => print_run(rt, &mut file)?,
-            b'H' => print_history(rt, &mut file)?,
-            _ => return Err(anyhow!("a case of no known kind")),
-        }
+        print_case(rt, char::from(letter), &mut file)?;
     }
     Ok(())
+}
+
+// A case of the kind that its letter names. A rule of this project: letters are matched as char literals in one small function.
+fn print_case<'a>(rt: &HostRuntime, letter: char, file: &mut CaseFile<'a>) -> anyhow::Result<()> {
+    match letter {
+        'Q' => print_run(rt, file),
+        'H' => print_history(rt, file),
+        _ => Err(anyhow!("a case of no known kind")),
+    }
 }
 
 // A run of the quote program: its model file and its input.

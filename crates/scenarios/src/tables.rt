@@ -57,24 +57,25 @@ pub(crate) fn read_calls<'a>(
     read_list(heap, file, |file| read_call(heap, file))
 }
 
+// A call by its letter: here too letters are matched as char literals in one small function.
 fn read_call<'a>(heap: Global, file: &mut CaseFile<'a>) -> anyhow::Result<Call<OwnedList>> {
-    match file.byte()? {
-        b'L' => Ok(Call::Load(read_table(heap, file)?)),
-        b'T' => Ok(Call::Standing),
-        b'R' => Ok(Call::Refine {
+    match char::from(file.byte()?) {
+        'L' => Ok(Call::Load(read_table(heap, file)?)),
+        'T' => Ok(Call::Standing),
+        'R' => Ok(Call::Refine {
             component: file.long()?,
             steps: file.long()?,
             width: file.long()?,
         }),
-        b'S' => Ok(Call::Sweep {
+        'S' => Ok(Call::Sweep {
             count: file.long()?,
         }),
-        b'C' => Ok(Call::Close),
-        b'Q' => Ok(Call::Quote {
+        'C' => Ok(Call::Close),
+        'Q' => Ok(Call::Quote {
             state: file.long()?,
             width: file.long()?,
         }),
-        b'P' => Ok(Call::Plan { room: file.long()? }),
+        'P' => Ok(Call::Plan { room: file.long()? }),
         _ => Err(anyhow!("a call of no known kind")),
     }
 }

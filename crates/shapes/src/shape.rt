@@ -1,5 +1,5 @@
-use decomposition::Parts;
-use model::{LoadFault, Model};
+use decomposition::{Parts, decompose};
+use model::LoadFault;
 use sources::{ChoiceRow, List, StateRow};
 use std::alloc::{AllocError, Global};
 
@@ -30,7 +30,7 @@ fn rows<T: Drop, F: Fn(u32, u32) -> T>(
     Ok(rows)
 }
 
-// The parts of a table, by way of the engine's own copy.
+// The parts of a shape's table.
 pub(crate) fn parts_of(heap: Global, shape: &Shape<'_>) -> Result<Parts, LoadFault> {
     let states = rows(heap, shape.states, |first, count| StateRow { first, count })?;
     let choices = rows(
@@ -43,9 +43,7 @@ pub(crate) fn parts_of(heap: Global, shape: &Shape<'_>) -> Result<Parts, LoadFau
         },
     )?;
     let list = List::new(shape.denominator, &states, &choices, shape.branches);
-    let model = Model::load(heap, &list)?;
-    let parts = Parts::of(heap, &model)?;
-    Ok(parts)
+    decompose(heap, &list)
 }
 
 // One choice for each state, with one branch of weight 1; two branches or two choices somewhere; a branch that leads away;

@@ -44,6 +44,7 @@ impl Band {
     }
 
     // Hands the branches of a choice at a state to `read`: none where the band has no such choice.
+    // They are made here, one, two or three of them, and lie in no list of the band, so they cannot be handed out as a slice.
     fn with_moves<R, F: FnOnce(&[(u32, u32)]) -> R>(&self, state: u32, choice: u32, read: F) -> R
         requires { F.IsAlwaysCallable read }
         ensures { let b = self.now in FnOnceReturnsAt F.FnOnce read (band_moves b.half b.holding b.recentring state choice) result }

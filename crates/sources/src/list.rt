@@ -1,7 +1,10 @@
-ghost use Rattle.std.specs.Prelude.{◌≡◌, ℕ, ◌+◌, ◌<◌, length, slice_index_or};
-ghost use Rattle.sources.specs.Rows.{run, state_at, choice_at, list_table};
+ghost use Rattle.std.specs.Prelude.{◌≡◌, ℕ, ◌+◌, ◌^◌, ◌<◌, ◌≤◌, length, slice_index_or};
+ghost use Rattle.sources.specs.Rows.{run, no_state, state_count, state_at, choice_at, branch_count, branch_at, list_table};
 
 use table::Source;
+
+// A run of a list is told by its first place and its count, and not as a slice: a table's rows are flat data, and lie in lists that are
+// a caller's or move with their owner.
 
 // A state of a list: where its choices begin in the list of choices, and how many there are.
 #[derive(Clone, Copy, PartialEq, Eq, Default, Debug)]
@@ -49,11 +52,20 @@ impl<'a> List<'a> {
         }
     }
 
+    // The rows of its states: 257 at most, since that there are more than 256 is all that counts of a longer list.
+    fn state_rows(&self) -> &'a [StateRow]
+        ensures count { let l = self.now in length result.now ≡ state_count l.states.now l.choices.now l.branches.now }
+        ensures each { let l = self.now in (s : ℕ) → slice_index_or result.now s no_state ≡ state_at l.states.now l.choices.now l.branches.now s }
+        ensures few { length result.now ≤ 257 }
+    {
+        &self.states[..self.states.len().min(MOST_ROWS)]
+    }
+
     // The row of a state, or an empty one.
     fn state_row(&self, state: u32) -> StateRow
         ensures { let l = self.now in result ≡ state_at l.states.now l.choices.now l.branches.now state }
     {
-        let rows = &self.states[..self.states.len().min(MOST_ROWS)];
+        let rows = self.state_rows();
         rows.get(state as usize).copied().unwrap_or_default()
     }
 
@@ -64,6 +76,16 @@ impl<'a> List<'a> {
         let StateRow { first, count } = self.state_row(state);
         let rows = part(self.choices, first, count);
         rows.get(choice as usize).copied().unwrap_or_default()
+    }
+
+    // The branches of a choice, in one run: none where there is no such choice.
+    pub fn branches_of(&self, state: u32, choice: u32) -> &'a [(u32, u32)]
+        ensures count { let l = self.now in length result.now ≡ branch_count l.states.now l.choices.now l.branches.now state choice }
+        ensures each { let l = self.now in (b : ℕ) → slice_index_or {A = ℕ × ℕ} result.now b (0, 0) ≡ branch_at l.states.now l.choices.now l.branches.now state choice b }
+        ensures few { length result.now < 2 ^ 32 }
+    {
+        let ChoiceRow { first, count, .. } = self.choice_row(state, choice);
+        part(self.branches, first, count)
     }
 }
 
@@ -81,7 +103,7 @@ impl<'a> Source for List<'a> {
     ghost table = { λ l. list_table l.denominator l.states.now l.choices.now l.branches.now };
 
     fn states(&self) -> u32 {
-        self.states.len().min(MOST_ROWS) as u32
+        self.state_rows().len() as u32
     }
 
     fn denominator(&self) -> u32 {
@@ -98,13 +120,11 @@ impl<'a> Source for List<'a> {
     }
 
     fn branches(&self, state: u32, choice: u32) -> u32 {
-        let ChoiceRow { first, count, .. } = self.choice_row(state, choice);
-        part(self.branches, first, count).len() as u32
+        self.branches_of(state, choice).len() as u32
     }
 
     fn branch(&self, state: u32, choice: u32, branch: u32) -> (u32, u32) {
-        let ChoiceRow { first, count, .. } = self.choice_row(state, choice);
-        let branches = part(self.branches, first, count);
+        let branches = self.branches_of(state, choice);
         branches.get(branch as usize).copied().unwrap_or_default()
     }
 }

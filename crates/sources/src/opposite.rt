@@ -6,6 +6,7 @@ use table::Source;
 #[derive(Clone, Copy, Drop)]
 pub struct Opposite<S>(pub S);
 
+// Each other question goes to the source as it is: a trait has no way to pass all of them on at once.
 impl<S: Source> Source for Opposite<S> {
     ghost table = { λ o. opposite_table (S.Source.table o.0) };
 

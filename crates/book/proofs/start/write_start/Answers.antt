@@ -30,4 +30,5 @@ returns c =
       plan = with_items_is B.plan c.plan_first.new.plan (search rules) ∙ c.plan_first.ensures;
       halfway = S.halfway;
       marks = S.marks;
+      distances = S.distances;
     }

@@ -4,4 +4,4 @@ use Rattle.decomposition.proofs.passes.drop_choices.Given as goal
 
 -- the states so far have been tried
 abbrev pub invariant-loop-state : goal.invariant-loop-state
-invariant-loop-state l = DroppedAll (table_of l.model) l.square.words.items l.state l.initial.kept.flags.items l.kept.flags.items l.changed
+invariant-loop-state l = DroppedAll (table_of l.model) l.square.rows.items l.state l.initial.kept.flags.items l.kept.flags.items l.changed

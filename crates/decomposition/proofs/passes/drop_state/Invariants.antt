@@ -5,4 +5,4 @@ use Rattle.decomposition.proofs.passes.drop_state.Given as goal
 -- the choices so far have been tried
 abbrev pub invariant-loop-choice : goal.invariant-loop-choice
 invariant-loop-choice l =
-    DroppedState (table_of l.model) l.square.words.items l.state l.choice l.initial.kept.flags.items l.kept.flags.items l.changed
+    DroppedState (table_of l.model) l.square.rows.items l.state l.choice l.initial.kept.flags.items l.kept.flags.items l.changed

@@ -1,7 +1,9 @@
-use Rattle.std.proofs.Common.{◌≡◌, ℕ, ◌<◌, ap, arith}
+use Rattle.std.proofs.Common.{◌≡◌, ℕ, ◌<◌, eqb, ap, subst, arith}
 use Rattle.table.specs.Table.{Table, successor}
+use Rattle.components.specs.Below.{any}
 use Rattle.model.specs.Held.{table_of}
 use Rattle.model.proofs.Unbroken.{model_lawful}
+use Rattle.decomposition.specs.Bits.{Marks}
 use Rattle.decomposition.proofs.Marked.{branch_more}
 use Rattle.decomposition.proofs.reach.mark_choice.Goals as goal
 
@@ -11,15 +13,24 @@ set-requires-clause-column c =
     let law = model_lawful c.args.model.now in
     let s : ℕ = c.args.state in
     let d : ℕ = c.args.choice in
-    let b : ℕ = c.loop-branch.branch in
+    let b : ℕ = c.loop-successor.successor-index in
     let few = law.states.1 in
-    let h : b < T.branches s d = omega (arith, c.branches-branch-end.ensures) in
+    let h : b < T.branches s d = omega (arith, c.branches_of-successor-items.ensures.count) in
     let u : successor T s d b < T.states = law.successors s d b c.requires.state c.requires.choice h in
-    let q : c.branch-successor.result.0 ≡ successor T s d b = ap (λ (x : ℕ × ℕ). x.0) c.branch-successor.ensures in
+    let q = ap (λ (x : ℕ × ℕ). x.0) (c.branches_of-successor-items.ensures.each b) in
     omega arith
 
-pub loop-branch-preserved : goal.loop-branch-preserved
-loop-branch-preserved c =
-    branch_more (table_of c.args.model.now) c.args.state c.args.choice c.loop-branch.branch c.branch-successor.result.0
-    c.args.square.now.words.items c.loop-branch.square.words.items c.set.new.self.words.items c.loop-branch.invariant c.set.ensures
-    (ap (λ (x : ℕ × ℕ). x.0) c.branch-successor.ensures)
+pub loop-successor-preserved : goal.loop-successor-preserved
+loop-successor-preserved c =
+    branch_more (table_of c.args.model.now) c.args.state c.args.choice c.loop-successor.successor-index _
+    c.args.square.now.rows.items c.loop-successor.square.rows.items c.set.new.self.rows.items c.loop-successor.invariant c.set.ensures
+    (ap (λ (x : ℕ × ℕ). x.0) (c.branches_of-successor-items.ensures.each c.loop-successor.successor-index))
+
+pub returns : goal.returns
+returns c =
+    let T : Table = table_of c.args.model.now in
+    let s : ℕ = c.args.state in
+    let d : ℕ = c.args.choice in
+    let all : c.loop-successor.successor-index ≡ T.branches s d = omega (arith, c.branches_of-successor-items.ensures.count) in
+    subst (λ (n : ℕ). Marks c.args.square.now.rows.items c.loop-successor.square.rows.items s (λ t. any n (λ b. eqb (successor T s d b) t)))
+    all c.loop-successor.invariant

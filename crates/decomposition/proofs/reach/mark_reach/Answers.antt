@@ -7,5 +7,5 @@ use Rattle.decomposition.proofs.reach.mark_reach.Goals as goal
 pub returns : goal.returns
 returns c =
     let T : Table = table_of c.args.model.now in
-    reach_shown T (flag_at c.args.kept.now.flags.items) c.mark_steps.new.square.words.items c.mark_steps.ensures c.close.new.self.words.items
+    reach_shown T (flag_at c.args.kept.now.flags.items) c.mark_steps.new.square.rows.items c.mark_steps.ensures c.close.new.self.rows.items
     (rw c.states.ensures.value at c.close.ensures)

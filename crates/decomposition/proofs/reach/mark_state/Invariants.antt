@@ -7,4 +7,4 @@ use Rattle.decomposition.proofs.reach.mark_state.Given as goal
 -- the kept choices so far are marked
 abbrev pub invariant-loop-choice : goal.invariant-loop-choice
 invariant-loop-choice l =
-    Marks l.initial.square.words.items l.square.words.items l.state (by_choices (table_of l.model) (flag_at l.kept.flags.items) l.state l.choice)
+    Marks l.initial.square.rows.items l.square.rows.items l.state (by_choices (table_of l.model) (flag_at l.kept.flags.items) l.state l.choice)

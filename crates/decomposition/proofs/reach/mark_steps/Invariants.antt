@@ -5,4 +5,4 @@ use Rattle.decomposition.proofs.reach.mark_steps.Given as goal
 
 -- the states so far are marked
 abbrev pub invariant-loop-state : goal.invariant-loop-state
-invariant-loop-state l = Rows (table_of l.model) (flag_at l.kept.flags.items) l.state l.square.words.items
+invariant-loop-state l = Rows (table_of l.model) (flag_at l.kept.flags.items) l.state l.square.rows.items

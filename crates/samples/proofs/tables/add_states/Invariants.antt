@@ -1,26 +1,17 @@
-use Rattle.std.proofs.Common.{◌≡◌, ◌+◌, ◌*◌, ◌≤◌, vec_len}
+use Rattle.std.proofs.Common.{◌≡◌, ◌+◌, ◌*◌, ◌≤◌, vec_items, vec_len}
+use Rattle.samples.specs.Tables.{StatesAdded}
 use Rattle.samples.proofs.tables.add_states.Given as goal
 
+-- the states so far have been added
 abbrev pub invariant-loop-state : goal.invariant-loop-state
-invariant-loop-state g l =
-    (l.table.denominator ≡ l.fn.table.denominator)
-    × (l.from + vec_len l.table.states ≡ vec_len l.fn.table.states + l.state)
-    × (16 * l.from + vec_len l.table.choices ≡ vec_len l.fn.table.choices + 16 * l.state)
-    × (l.count * (16 * l.from) + vec_len l.table.branches ≡ vec_len l.fn.table.branches + l.count * (16 * l.state))
-    × (vec_len l.table.branches ≤ 128 * l.state)
-
-abbrev pub invariant-loop-choice : goal.invariant-loop-choice
-invariant-loop-choice g l =
-    (l.table.denominator ≡ l.fn.table.denominator)
-    × (l.from + vec_len l.table.states ≡ vec_len l.fn.table.states + (l.state + 1))
-    × (16 * l.from + vec_len l.table.choices ≡ vec_len l.fn.table.choices + l.choice)
-    × (l.count * (16 * l.from) + vec_len l.table.branches ≡ vec_len l.fn.table.branches + l.count * l.choice)
-    × (vec_len l.table.branches ≤ 8 * l.choice)
-
-abbrev pub invariant-loop-place : goal.invariant-loop-place
-invariant-loop-place g l =
-    (l.table.denominator ≡ l.fn.table.denominator)
-    × (l.from + vec_len l.table.states ≡ vec_len l.fn.table.states + (l.state + 1))
-    × (16 * l.from + vec_len l.table.choices ≡ vec_len l.fn.table.choices + (l.choice + 1))
-    × (l.count * (16 * l.from) + vec_len l.table.branches ≡ vec_len l.fn.table.branches + (l.count * l.choice + l.place))
-    × (vec_len l.table.branches ≤ 8 * l.choice + l.place)
+invariant-loop-state g l = record {
+  denominator : l.table.denominator ≡ l.initial.table.denominator;
+  states : l.from + vec_len l.table.states ≡ vec_len l.initial.table.states + l.state;
+  choices : 16 * l.from + vec_len l.table.choices ≡ vec_len l.initial.table.choices + 16 * l.state;
+  branches : l.count * (16 * l.from) + vec_len l.table.branches ≡ vec_len l.initial.table.branches + l.count * (16 * l.state);
+  few_choices : vec_len l.table.choices ≤ 16 * l.state;
+  few_branches : vec_len l.table.branches ≤ 128 * l.state;
+  rows : StatesAdded l.spread l.from l.to l.state l.count (goal.F-post g l.branch)
+      (vec_items l.initial.table.states) (vec_items l.table.states) (vec_items l.initial.table.choices) (vec_items l.table.choices)
+      (vec_items l.initial.table.branches) (vec_items l.table.branches);
+}

@@ -25,12 +25,12 @@ write_nodes-requires c =
     let K = keeps_true T d.book d.kept in
     let lr = K.fit.lengths.recorded in
     let lp = K.fit.lengths.plan in
-    let lm = K.marks in
+    let ld = K.distances in
     record {
       recorded = omega (arith, ap (λ (l : List ℕ). length l) c.deref.ensures.value, lr);
       plan = ap (λ (l : List Exit). length l) c.deref-2.ensures.value ∙ lp;
-      named = λ v h. subst (λ (l : List Exit). NamesState T (exit_at l v)) (sym c.deref-2.ensures.value) (fit_names T v (exit_at (desk_book d).plan v) (K.fit.plan v h));
-      marks = omega (arith, c.deref_mut.ensures.len, lm);
+      named = λ v h. subst (λ (l : List Exit). NamesState T v (exit_at l v)) (sym c.deref-2.ensures.value) (fit_names T v (exit_at (desk_book d).plan v) (K.fit.plan v h));
+      distances = omega (arith, c.deref_mut.ensures.len, ld);
       room = omega (arith, c.states.ensures, c.if-list-states.false);
     }
 
@@ -38,7 +38,7 @@ pub invariant_of-self : goal.invariant_of-self
 invariant_of-self c =
     let d = c.args.self.now in
     let K = keeps_true (desk_table d) d.book d.kept in
-    record { kept = keeps_from (desk_table d) _ (record { fit = K.fit; natural = K.natural; halfway = K.halfway; marks = K.marks }) }
+    record { kept = keeps_from (desk_table d) _ (record { fit = K.fit; natural = K.natural; halfway = K.halfway; marks = K.marks; distances = K.distances }) }
 
 pub returns : goal.returns
 returns c =

@@ -10,7 +10,7 @@ use Rattle.book.proofs.play.Marked.first_into.Goals as goal
 pub returns : goal.returns
 returns c =
     let T : Table = layout_table c.args.self.now.layout.now in
-    let test : ℕ → Bool = inside_into T c.args.self.now.marks.now c.args.mark c.args.state in
+    let test : ℕ → Bool = inside_into T c.args.self.now.distances.now c.args.mark c.args.state in
     let found : Found c.choices-count.result test c.find.result =
     first_from_Range _ _ _ c.find.result (λ x. test x ≡ true) (λ x. test x ≡ false) c.find.ensures.ran
     (λ x q k. search (rules, tests)) (λ x q k. search (rules, tests)) in

@@ -12,7 +12,7 @@ played-requires c =
     record {
       known = m.0;
       recorded = c.requires.recorded;
-      ready = subst (λ (v : ℕ). Ready (layout_table c.args.self.now.layout.now) v c.args.exit c.args.self.now.marks.now) (sym m.1) c.requires.ready;
+      ready = subst (λ (v : ℕ). Ready (layout_table c.args.self.now.layout.now) v c.args.exit c.args.self.now.distances.now) (sym m.1) c.requires.ready;
     }
 
 pub bounds-list-state : goal.bounds-list-state

@@ -1,12 +1,15 @@
-use Rattle.std.proofs.Common.{ℕ, ◌+◌, ◌*◌, ◌/◌, ◌∙◌, arith}
+use Rattle.std.proofs.Common.{◌≡◌, ℕ, ◌||◌, eqb, List, [], get_or, ap, ◌∙◌, arith}
 use Rattle.std.proofs.lemmas.List.{get_or_default}
-use Rattle.decomposition.proofs.Words.{set-bit}
+use Rattle.decomposition.specs.Bits.{bit_in}
+use Rattle.decomposition.proofs.Words.{set-bit, row_marked}
 use Rattle.decomposition.proofs.bits.Square.set.Goals as goal
 
 pub returns : goal.returns
 returns c =
-    let i : ℕ = 4 * c.args.row + c.args.column / 64 in
-    let w : ℕ = c.index_mut.result.now in
+    let rows : List (List ℕ) = c.args.self.now.rows.items in
+    let row : List ℕ = c.index_mut.result.now in
+    let k : ℕ = c.args.column in
     let size = c.args.self.now.size in
-    set-bit c.args.self.now.words.items c.args.row c.args.column w
-    (c.index_mut.ensures.value ∙ get_or_default c.args.self.now.words.items i w 0 (omega arith)) (omega arith) (omega arith)
+    let e : row ≡ get_or rows c.args.row [] = c.index_mut.ensures.value ∙ get_or_default rows c.args.row row [] (omega arith) in
+    row_marked rows c.args.row _ (λ t. eqb t k) (omega arith)
+    (λ t h. set-bit row k (omega arith) (omega arith) t h ∙ ap (λ (xs : List ℕ). bit_in xs t || eqb t k) e)

@@ -10,7 +10,7 @@ use Rattle.decomposition.proofs.number.Numbering.add_state.Goals as goal
 
 pub lowest_state-low-requires-clause-itself : goal.lowest_state-low-requires-clause-itself
 lowest_state-low-requires-clause-itself c =
-    own_bit (table_of c.args.apart.now.model.now) (model_lawful c.args.apart.now.model.now) c.args.apart.now.square.words.items
+    own_bit (table_of c.args.apart.now.model.now) (model_lawful c.args.apart.now.model.now) c.args.apart.now.square.rows.items
     c.args.apart.now.reached c.args.state c.requires.within
 
 pub returns-then-low-state : goal.returns-then-low-state
@@ -18,7 +18,7 @@ returns-then-low-state c =
     let T : Table = table_of c.args.apart.now.model.now in
     let low : c.lowest_state-low.result ≡ lowest T c.args.state =
     rw c.states.ensures.value at c.lowest_state-low.ensures
-    ∙ low_shown T (model_lawful c.args.apart.now.model.now) c.args.apart.now.square.words.items c.args.apart.now.reached c.args.state c.requires.within in
+    ∙ low_shown T (model_lawful c.args.apart.now.model.now) c.args.apart.now.square.rows.items c.args.apart.now.reached c.args.state c.requires.within in
     known_pushed T (model_lawful c.args.apart.now.model.now) c.args.state (vec_items c.args.self.now.node) (vec_items c.args.self.now.component) c.args.self.now.components
     c.requires.within c.requires.so_far c.lowest_state-low.result _ (vec_items c.push.new.self) low c.if-low-state.true
     (let l = c.requires.so_far.size in let k = c.if-low-state.true in
@@ -51,7 +51,7 @@ returns c =
     let k : ℕ = c.args.state in
     let low : c.lowest_state-low.result ≡ lowest T k =
     rw c.states.ensures.value at c.lowest_state-low.ensures
-    ∙ low_shown T (model_lawful c.args.apart.now.model.now) c.args.apart.now.square.words.items c.args.apart.now.reached k c.requires.within in
+    ∙ low_shown T (model_lawful c.args.apart.now.model.now) c.args.apart.now.square.rows.items c.args.apart.now.reached k c.requires.within in
     let most = lowest_le T (model_lawful c.args.apart.now.model.now) k c.requires.within in
     let itself : lowest T k ≡ k = omega (arith, c.if-low-state.false) in
     fresh_pushed T (model_lawful c.args.apart.now.model.now) k (vec_items c.args.self.now.node) (vec_items c.args.self.now.component) c.args.self.now.components

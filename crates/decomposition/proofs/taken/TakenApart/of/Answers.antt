@@ -15,8 +15,8 @@ pub invariant_of-result : goal.invariant_of-result
 invariant_of-result c =
     let T : Table = table_of c.args.model.now in
     record {
-      kept_is = c.settle.ensures;
+      kept_is = c.settle.ensures.kept;
       reached = λ s t h k.
-          c.mark_reach.ensures s t h k
-          ∙ reach_same T (model_lawful c.args.model.now) (flag_at c.settle.new.kept.flags.items) (inside T) c.settle.ensures s t h;
+          c.settle.ensures.marked s t h k
+          ∙ reach_same T (model_lawful c.args.model.now) (flag_at c.settle.new.kept.flags.items) (inside T) c.settle.ensures.kept s t h;
     }
