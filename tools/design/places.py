@@ -12,7 +12,7 @@ import sys
 folder = next((a for a in sys.argv[1:] if not a.startswith('-')), '.')
 verbose = '-v' in sys.argv
 files = sorted(glob.glob(os.path.join(folder, 'crates/*/src/*.rt')))
-TESTS = ('source_tests', 'modelfile_tests', 'console_tests')
+TESTS = ('source_tests', 'sample_tests', 'modelfile_tests', 'console_tests')
 
 
 def crate(path):
@@ -23,12 +23,26 @@ def short(path):
     return path.split('crates/')[1].replace('/src/', '/')
 
 
+def parameters(head, name):
+    """What stands after the bracket that opens the parameters: the first after the name and its generics."""
+    rest = head[head.index('fn ' + name) + 3 + len(name):].replace('->', '  ')
+    depth = 0
+    for i, ch in enumerate(rest):
+        if ch == '<':
+            depth += 1
+        if ch == '>':
+            depth -= 1
+        if ch == '(' and depth == 0:
+            return rest[i + 1:]
+    raise ValueError(head)
+
+
 class Fn:
     """A function: where it stands, its parameters, its clauses and its body."""
 
-    def __init__(self, path, line, name, head, body):
-        self.path, self.line, self.name, self.head, self.body = path, line, name, head, body
-        inside = head[head.index('(') + 1:]
+    def __init__(self, path, line, name, head, body, of_trait):
+        self.path, self.line, self.name, self.head, self.body, self.of_trait = path, line, name, head, body, of_trait
+        inside = parameters(head, name)
         depth, out, word = 1, [], ''
         for ch in inside:
             if ch in '([{<':
@@ -53,8 +67,10 @@ class Fn:
 
 def functions(path):
     lines = open(path).read().split('\n')
-    i, out = 0, []
+    i, out, of_trait = 0, [], False
     while i < len(lines):
+        if re.match(r'(impl|trait|pub trait)\b', lines[i]):
+            of_trait = ' for ' in lines[i] or 'trait ' in lines[i]
         m = re.match(r'^(\s*)(?:pub(?:\(crate\))? )?fn (\w+)', lines[i])
         if not m:
             i += 1
@@ -70,7 +86,7 @@ def functions(path):
             while i < len(lines) and lines[i].rstrip() != pad + '}':
                 body.append((i + 1, lines[i]))
                 i += 1
-        out.append(Fn(path, start + 1, m.group(2), head, body))
+        out.append(Fn(path, start + 1, m.group(2), head, body, bool(pad) and of_trait))
         i += 1
     return out
 
@@ -102,15 +118,16 @@ def point1():
     yield 'a number that stands for a theorem', grep(r'^pub fn \w+\(\) -> (u8|usize)$')
     yield 'a flag beside values in a struct', grep(r'^\s+(pub(\(crate\))? )?\w+: bool,')
     yield 'a number that says "none" (by its comment)', [f'{short(p)}:{n} {l.strip()}' for p, n, l in lines if l.strip().startswith('//') and re.search(r'0 where there is no|or how many choices|answers the theorem|and 0 of a|or none: \(0|, 0 where it has none', l)]
+    yield 'a number for an absent one', grep(r'unwrap_or\((\d+|\w+)\)', TESTS)
     yield 'a number of a refusal by hand', grep(r'noted\(\d|numbered\(\d|number: \w+,$|const (UNREAD|WANT_OF_MEMORY)', TESTS)
 
 
 def point2():
     seen = collections.defaultdict(set)
     for f in fns:
-        if f.name not in ('main', 'new', 'from') and crate(f.path) not in TESTS and not re.search(r'^\s+(pub )?fn', f.head):
+        if f.name not in ('main', 'new') and crate(f.path) not in TESTS and not f.of_trait:
             seen[f.name].add(short(f.path))
-    yield 'a function of the same name in two files', [f'{n}: {", ".join(sorted(s))}' for n, s in sorted(seen.items()) if len(s) > 1]
+    yield 'a function or method of the same name in two files', [f'{n}: {", ".join(sorted(s))}' for n, s in sorted(seen.items()) if len(s) > 1]
     types = collections.defaultdict(set)
     for p in files:
         for n in re.findall(r'(?:struct|enum) (\w+)', open(p).read()):
@@ -214,11 +231,11 @@ def point6():
                 par.append(f'{short(p)} struct {m.group(1)}: {", ".join(vecs)}')
     yield 'lists beside one another', par
     yield 'a place and a count', grep(r'^\s+pub first: u32')
-    yield 'words of bits', sorted({short(p) for p, n, l in lines if re.search(r'words: &(mut )?\[u64\]', l)})
+    yield 'words of bits', sorted({short(p) for p, n, l in lines if re.search(r'words: (&(mut )?\[u64\]|Vec<u64>)', l)})
 
 
 def point7():
-    yield 'a match on a letter, a kind or a number', grep(r'match (letter|kind|file\.byte\(\)\?|choice|branch) \{')
+    yield 'a match on a letter, a kind or a number', grep(r'match (letter|kind|choice|branch|\S*file\.byte\(\)\?\S*) \{')
     yield 'a flag that says whether to run', [f.at() for f in fns if any(re.search(r'\b(present|held|rises): bool', p) for p in f.params)]
 
 

@@ -12,11 +12,11 @@ BUGS = [
     ("table", "src/fault.rt", "(19, state, choice, 0)", "(19, choice, state, 0)", "the place of a wrong sum has state and choice swapped"),
     # sources
     ("sources", "src/band.rt", "2 * self.half + 1", "0 * self.half", "a band within its limits has an empty table"),
-    ("sources", "src/list.rt", "self.states.len().min(MOST_ROWS) as u32", "self.states.len().min(0) as u32", "every list has an empty table"),
+    ("sources", "src/list.rt", "self.state_rows().len() as u32", "self.state_rows().len().min(0) as u32", "every list has an empty table"),
     ("sources", "src/band.rt", "const MOST_HOLDING: u32 = 7_000;", "const MOST_HOLDING: u32 = 10_000;", "bands with a reward past the limit are within theirs"),
     ("sources", "src/band.rt", "(state, 2)", "(state, 3)", "the weights of holding in the middle do not add up"),
     ("sources", "src/opposite.rt", "self.0.reward(state, choice).saturating_neg()", "self.0.reward(state, choice)", "the opposite has the rewards as they are"),
-    ("sources", "src/list.rt", "branches.get(branch as usize).copied().unwrap_or_default()", "if branch as usize <= branches.len() {\n            self.branches.get(first as usize + branch as usize).copied().unwrap_or_default()\n        } else {\n            (0, 0)\n        }", "a choice has the first branch of the next one too"),
+    ("sources", "src/list.rt", "branches.get(branch as usize).copied().unwrap_or_default()", "let ChoiceRow { first, .. } = self.choice_row(state, choice);\n        if branch as usize <= branches.len() {\n            self.branches.get(first as usize + branch as usize).copied().unwrap_or_default()\n        } else {\n            (0, 0)\n        }", "a choice has the first branch of the next one too"),
     # horizon
     ("horizon", "src/side.rt", "whole - 1", "whole - 0", "the lower side rounds toward zero"),
     ("horizon", "src/side.rt", "whole + 1", "whole + 0", "the upper side rounds toward zero"),
@@ -94,7 +94,7 @@ BUGS = [
     ("book", "src/serve.rt", "write_start(&self.layout, &mut self.book);", "if self.book.lo.is_empty() { write_start(&self.layout, &mut self.book); }", "a close leaves the book of a table with a component"),
     ("book", "src/start.rt", "(self.book.y[node], self.book.x[node])", "let _now = (self.book.y[node], self.book.x[node]); widest(&self.layout)", "quotes are frozen at the start bounds"),
     ("book", "src/play.rt", "                choice\n", "                0\n", "the plan plays choice 0 where it should leave"),
-    ("book", "src/play.rt", "enters(self.layout.branches_of(state, choice), self.marks, mark)\n", "enters(self.layout.branches_of(state, choice), self.marks, mark);\n            true\n", "toward an exit the first inside choice is played, whether it leads nearer or not"),
+    ("book", "src/play.rt", "enters(self.layout.branches_of(state, choice), self.distances, mark)\n", "enters(self.layout.branches_of(state, choice), self.distances, mark);\n            true\n", "toward an exit the first inside choice is played, whether it leads nearer or not"),
     ("book", "src/refine.rt", "return made + 1;", "return steps;", "a refine that is held counts all steps asked for"),
     ("book", "src/refine.rt", "return made;", "return 0;", "a refine that ends early answers count 0"),
     ("book", "src/sweep.rt", "return made + 1;", "return 0;", "sweeps that end early answer count 0"),
@@ -116,7 +116,7 @@ BUGS = [
     ("book", "src/serve.rt", ("use table::Source;", "Layout::of(heap, source)?"), ("use sources::Band;\nuse table::Source;", "Layout::of(heap, &Band::new(1, 1, 1))?"), "the engine never asks its source: it opens a fixed table"),
     # definitions: what the code is held to
     ("horizon", "specs/Means.antt", "round_down (negsuc a) (suc k) = negsuc (a / suc k)", "round_down (negsuc a) (suc k) = neg_ℤ (pos (suc a / suc k))", "the definition of rounding down is toward zero"),
-    ("history", "specs/Calls.antt", "counts n = nat_le 1 n && nat_le n 1000", "counts n = nat_le 1 n && nat_le n 1001", "the definition of a count allows 1,001"),
+    ("history", "specs/Calls.antt", "count_within n = nat_le 1 n && nat_le n 1000", "count_within n = nat_le 1 n && nat_le n 1001", "the definition of a count allows 1,001"),
     ("history", "specs/Calls.antt", "after_load T memory S =\n    elim (fault_of T) [\n      | Some e ↦ S", "after_load T memory S =\n    elim (fault_of T) [\n      | Some e ↦ idle (refusal.Table e)", "by definition a load that is refused leaves the engine idle"),
     ("history", "specs/Answers.antt", "(pos width)) 1 0)", "(pos width)) 0 1)", "the definition of the mark is turned round"),
     ("rules", "specs/Setting.antt", "scale_in_use = 1048576", "scale_in_use = 1000000", "F is a million by definition"),

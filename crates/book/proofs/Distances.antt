@@ -1,6 +1,7 @@
 -- Distances grow by one with each round of marks.
 use Rattle.std.proofs.Common.{◌≡◌, ℕ, zero, suc, ◌+◌, ◌-◌, ◌<◌, ◌≤◌, Bool, true, false, cond, ◌&&◌, eqb, ltb, leb, Some, None, List, Option, length, set, sym, refl, ap, ◌∙◌, subst, ⊎_elim, arith}
-use Rattle.std.specs.Option.{is_some, unwrap_or, option_eq}
+use Rattle.std.specs.Option.{option_eq}
+use Rattle.std.proofs.lemmas.Option.{none-some, same_Some}
 use Rattle.std.proofs.lemmas.List.{get_or-set_same, get_or-set_other}
 use Rattle.std.proofs.lemmas.Bool.{cases_Bool, cases_eq, cases_lt, both_ways, and_parts, and_from, and_left, or_cases, or_right, cond-true, cond-false, cond_both, eq-eqb, ne_eqb, eqb-true, lt-ltb, le-ltb, le-leb, lt-leb}
 use Rattle.table.specs.Table.{Table, successor}
@@ -29,11 +30,11 @@ Partly T v t k s distances = (u : ℕ) → u < T.states → node_of T u ≡ v �
 
 -- two marks of one state are the same
 pub one_mark : (o : Option ℕ) (a b : ℕ) → o ≡ Some a → o ≡ Some b → a ≡ b
-one_mark o a b p q = ap (λ (x : Option ℕ). unwrap_or x 0) (sym p ∙ q)
+one_mark o a b p q = same_Some a b (sym p ∙ q)
 
 -- and a state with a mark is not without one
 pub no_mark : (o : Option ℕ) (a : ℕ) → o ≡ Some a → o ≡ None → ⊥
-no_mark o a p q = both_ways (is_some o) (ap is_some q) (ap is_some p)
+no_mark o a p q = none-some a (sym q ∙ p)
 
 -- what a test for a mark finds
 mark_is : (o : Option ℕ) (k : ℕ) → option_eq eqb o (Some k) ≡ true → o ≡ Some k

@@ -1,8 +1,7 @@
 -- The best exit of a node, one choice and one state at a time.
-use Rattle.std.proofs.Common.{◌≡◌, ℕ, zero, suc, ◌+◌, ◌<◌, ◌≤◌, true, false, cond, eqb, List, length, get_or, take, ℤ, IfSome, Some, None, fold, filter, Option, sym, refl, ap, ◌∙◌, arith}
+use Rattle.std.proofs.Common.{◌≡◌, ℕ, zero, suc, ◌+◌, ◌<◌, ◌≤◌, true, false, cond, eqb, List, length, take, ℤ, IfSome, Some, None, fold, filter, Option, sym, refl, ap, ◌∙◌, arith}
 use Rattle.std.specs.List.{range_with_len}
 use Rattle.std.proofs.lemmas.List.{take_all}
-use Rattle.std.proofs.lemmas.List.Sums.{fold_more}
 use Rattle.std.proofs.lemmas.Bool.{cond-true, cond-false}
 use Rattle.table.specs.Limits.{Lawful}
 use Rattle.components.specs.Inside.{inside}
@@ -53,9 +52,6 @@ abbrev pub over_members : Setting → (ℕ → ℕ → ℤ) → List ℕ → Opt
 over_members M g ms a i = fold (over_state M g) a (take i ms)
 
 module _ (M : Setting) (g : ℕ → ℕ → ℤ) (ms : List ℕ) (a : Option Candidate) where
-  pub member_more : (i : ℕ) → i < length ms → over_state M g (over_members M g ms a i) (get_or ms i 0) ≡ over_members M g ms a (i + 1)
-  member_more i h = sym (fold_more (over_state M g) a ms i 0 h)
-
   pub member_all : (v i : ℕ) → ms ≡ node_states M.table v → length ms ≤ i → over_members M g ms a i ≡ over_states M g v M.table.states a
   member_all v i all end =
       ap (λ (l : List ℕ). fold (over_state M g) a l) (take_all i ms end ∙ all)

@@ -1,16 +1,9 @@
--- Tests and folds in general.
-use Rattle.std.proofs.Common.{◌≡◌, ℕ, zero, suc, ◌+◌, ◌<◌, Bool, true, false, cond, ◌&&◌, List, [], ◌∷◌, ◌++◌, fold, filter, refl, ap, ◌∙◌, arith}
+-- Folds in general.
+use Rattle.std.proofs.Common.{◌≡◌, ℕ, zero, suc, ◌+◌, Bool, true, false, cond, List, [], ◌∷◌, ◌++◌, fold, filter, ap, ◌∙◌, arith}
 use Rattle.std.specs.List.{range_with_len}
 use Rattle.std.proofs.lemmas.List.{append-nil}
 use Rattle.std.proofs.lemmas.List.Sums.{fold_push}
 use Rattle.std.proofs.lemmas.List.Elements.{filter-append}
-use Rattle.components.specs.Below.{every}
-
--- equal tests pass alike
-pub every_same : (n : ℕ) (p q : ℕ → Bool) → ((i : ℕ) → i < n → p i ≡ q i) → every n p ≡ every n q
-every_same zero p q h = refl
-every_same (suc n) p q h =
-    ap (λ (b : Bool). b && p n) (every_same n p q (λ i l. h i (omega arith))) ∙ ap (λ (b : Bool). every n q && b) (h n (omega arith))
 
 -- counting to one more ends with the last number
 pub counting_last : (a n j : ℕ) → a + n ≡ j → range_with_len a (suc n) ≡ range_with_len a n ++ (j ∷ [])

@@ -12,7 +12,7 @@ use Rattle.rules.specs.declared.exit.Candidate.{Candidate}
 use Rattle.rules.proofs.Sides.{Side}
 use Rattle.rules.proofs.StepFacts.{best_reached}
 use Rattle.book.specs.Inside.{over_inside}
-use Rattle.book.proofs.Rows.{scaled}
+use Rattle.book.proofs.RunSums.{scaled}
 use Rattle.book.proofs.Insides.{by_choice, attaining, inside_best}
 
 module _ (T : Table) (L : Lawful T) (rounds : Rounding) (side : Side rounds) (t : ℕ → ℕ) (capped : (s : ℕ) → s < T.states → t s ≤ 2 ^ 46) where

@@ -14,11 +14,11 @@ use Rattle.rules.specs.Setting.{Setting, setting_of}
 use Rattle.rules.specs.Refine.{gain, halfway, shifted, held}
 use Rattle.rules.proofs.Choosing.{largest_bound, largest_reached, smallest_bound, smallest_reached}
 use Rattle.rules.proofs.Nodes.{some_state, of_component}
-use Rattle.rules.proofs.Ranges.{halfway_twice}
+use Rattle.rules.proofs.Halfway.{halfway_twice}
 use Rattle.rules.proofs.Sides.{Side, lower_side}
 use Rattle.rules.proofs.StepFacts.{shifted_capped}
 use Rattle.book.proofs.Gains.{best_within}
-use Rattle.book.proofs.Rows.{natural_is}
+use Rattle.book.proofs.RunSums.{natural_is}
 
 module _ (T : Table) (L : Lawful T) (t : ℕ → ℕ) (capped : (s : ℕ) → s < T.states → t s ≤ 2 ^ 46) (s : ℕ) (h : s < T.states) (e : in_component T s ≡ true) where
   pub gain_within : (rounds : Rounding) → Side rounds

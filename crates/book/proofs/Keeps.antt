@@ -14,7 +14,7 @@ use Rattle.rules.specs.Fit.{Lengths, VectorFits, RecordedFits, Within, ExitFits,
 use Rattle.rules.specs.declared.exit.Exit.{Exit}
 use Rattle.rules.specs.declared.exit.Exit.TheVariants.{Stay, Leave}
 use Rattle.book.specs.Books.{book_of, Kept}
-use Rattle.book.specs.Keeps.{sized, vector_fits, recorded_fits, within, exit_fits, fits, keeps}
+use Rattle.book.specs.Keeps.{lengths, vector_fits, recorded_fits, within, exit_fits, fits, keeps}
 use Rattle.book.specs.declared.book.Book.{Book}
 
 le_le_z : (a b : ℤ) → a ≤ℤ b → le_z a b ≡ true
@@ -31,8 +31,8 @@ module _ (M : Setting) where
   join : {a b : Bool} → a ≡ true → b ≡ true → (a && b) ≡ true
   join {a} {b} e f = and_from a b e f
 
-  sized_true : (B : rules.Book) → sized M B ≡ true → Lengths M B
-  sized_true B e =
+  lengths_true : (B : rules.Book) → lengths M B ≡ true → Lengths M B
+  lengths_true B e =
       let p = split e in let q = split p.1 in let r = split q.1 in let s = split r.1 in let t = split s.1 in let u = split t.1 in
       record {
         vector = eqb-true (length B.vector) M.table.states p.0;
@@ -44,8 +44,8 @@ module _ (M : Setting) where
         plan = eqb-true (length B.plan) (nodes M.table) u.1;
       }
 
-  sized_from : (B : rules.Book) → Lengths M B → sized M B ≡ true
-  sized_from B l =
+  lengths_from : (B : rules.Book) → Lengths M B → lengths M B ≡ true
+  lengths_from B l =
       join (eq-eqb (length B.vector) M.table.states l.vector)
       (join (eq-eqb (length B.recorded) M.table.states l.recorded)
       (join (eq-eqb (length B.lo) (components M.table) l.lo)
@@ -104,7 +104,7 @@ module _ (M : Setting) where
   fits_true B e =
       let p = split e in let q = split p.1 in let r = split q.1 in let s = split r.1 in let t = split s.1 in let u = split t.1 in let v = split u.1 in
       record {
-        lengths = sized_true B p.0;
+        lengths = lengths_true B p.0;
         vector = vector_true (at B.vector) q.0;
         recorded = recorded_true (at B.recorded) r.0;
         lo = within_true (components M.table) (at_z B.lo) s.0;
@@ -116,7 +116,7 @@ module _ (M : Setting) where
 
   fits_from : (B : rules.Book) → Fit M B → fits M B ≡ true
   fits_from B f =
-      join (sized_from B f.lengths)
+      join (lengths_from B f.lengths)
       (join (vector_from (at B.vector) f.vector)
       (join (recorded_from (at B.recorded) f.recorded)
       (join (within_from (components M.table) (at_z B.lo) f.lo)

@@ -66,9 +66,6 @@ module _ (l : Layout) where
           cond-true (ltb c n) (get_or (choice_rows l) (first + c) no_choice) no_choice (lt-ltb c n k)
           ∙ ap (λ (i : ℕ). get_or (choice_rows l) (i + c) no_choice) first_is
 
-      pub reward_is : (layout_table l).reward s c ≡ (choice_of l s c).reward
-      reward_is = ap (λ (x : ChoiceRow). x.reward) choice_is
-
       -- the flag of a choice
       pub flag_is : get_or (inside_flags l) (16 * s + c) false ≡ inside (layout_table l) s c
       flag_is = l.insides s c (record { state = h; choice = k })

@@ -5,8 +5,9 @@ use Rattle.std.proofs.lemmas.List.FromFn.{fill_by_all}
 use Rattle.std.proofs.lemmas.List.{take-append-drop, length-take-le, get_or-take}
 use Rattle.std.proofs.lemmas.Bool.{cases_lt, both_ways, cond_both}
 use Rattle.components.specs.Below.{any, first}
-use Rattle.components.proofs.Below.{first_le, first_at}
+use Rattle.components.proofs.Labels.{first_is}
 use Rattle.rules.specs.Choosing.{at, tabulate}
+use Rattle.rules.proofs.Layers.{first_most}
 
 pub any_ext : (n : ℕ) (p q : ℕ → Bool) → ((i : ℕ) → i < n → p i ≡ q i) → any n p ≡ any n q
 any_ext zero p q h = refl
@@ -15,13 +16,6 @@ any_ext (suc n) p q h =
     let b : p n ≡ q n = h n (omega arith) in
     rw (a, b) refl
 
-pub first_most : (n : ℕ) (p : ℕ → Bool) → first n p ≤ n
-unfolding first
-first_most zero p = omega arith
-first_most (suc n) p =
-    cond_both (p 0) 0 (suc (first n (λ j. p (suc j)))) (λ x. x ≤ suc n) (λ _. omega arith)
-    (λ _. let u = first_most n (λ j. p (suc j)) in omega arith)
-
 -- a first number below the count passes
 pub first_hit : (n : ℕ) (p : ℕ → Bool) → first n p < n → p (first n p) ≡ true
 unfolding first
@@ -29,14 +23,6 @@ first_hit zero p h = absurd (omega arith)
 first_hit (suc n) p h =
     cond_both (p 0) 0 (suc (first n (λ j. p (suc j)))) (λ x. x < suc n → p x ≡ true) (λ e _. e)
     (λ _ l. first_hit n (λ j. p (suc j)) (omega arith)) h
-
-pub first_is : (n : ℕ) (p : ℕ → Bool) (c : ℕ) → c < n → p c ≡ true → ((d : ℕ) → d < c → p d ≡ false) → first n p ≡ c
-first_is n p c l e h =
-    let a = first_le n p c e in
-    ⊎_elim
-    (λ (k : first n p < c). absurd (both_ways (p (first n p)) (h (first n p) k) (first_at n p c l e)))
-    (λ (k : c ≤ first n p). omega arith)
-    (cases_lt (first n p) c)
 
 pub first_past : (n : ℕ) (p : ℕ → Bool) → ((d : ℕ) → d < n → p d ≡ false) → first n p ≡ n
 first_past n p h =

@@ -3,13 +3,11 @@ use Rattle.std.proofs.Common.{◌≡◌, ℕ, cond, eqb, List, sym, refl, ap, �
 use Rattle.table.specs.Table.{Table}
 use Rattle.components.specs.Nodes.{node_of}
 use Rattle.rules.specs.Choosing.{at}
-use Rattle.rules.specs.Setting.{setting_of}
-use Rattle.rules.specs.Fit.{ExitFits}
 use Rattle.rules.specs.Book.{Book, exit_at}
 use Rattle.rules.specs.Play.{toward, play}
 use Rattle.rules.specs.declared.exit.Exit.{Exit}
 use Rattle.rules.specs.declared.exit.Exit.TheVariants.{Stay, Leave}
-use Rattle.book.specs.Plays.{play_by, NamesState}
+use Rattle.book.specs.Plays.{play_by}
 
 by_exit : (T : Table) (recorded : List ℕ) (s : ℕ) (e : Exit)
     → elim e [ Stay ↦ at recorded s | Leave t c ↦ cond (eqb s t) c (toward T t s) ] ≡ play_by T recorded e s
@@ -27,8 +25,3 @@ play_written T B s recorded plan x w a b =
     w ∙ ap (λ (r : List ℕ). play_by T r (exit_at plan (node_of T s)) s) a
     ∙ ap (λ (p : List Exit). play_by T B.recorded (exit_at p (node_of T s)) s) b
     ∙ sym (play-by T B s)
-
--- an exit that fits names a state of its node
-pub fit_names : (T : Table) (v : ℕ) (e : Exit) → ExitFits (setting_of T) v e → NamesState T v e
-fit_names T v Stay f = tt
-fit_names T v (Leave t c) f = (f.0, f.1)

@@ -20,7 +20,7 @@ use Rattle.book.specs.Books.{book_of, Kept}
 use Rattle.book.specs.Inside.{vector_of}
 use Rattle.book.specs.declared.book.Book.{Book}
 use Rattle.book.proofs.Halves.{shifted_is}
-use Rattle.book.proofs.Rows.{natural_is}
+use Rattle.book.proofs.RunSums.{natural_is}
 
 pub vector_at : (v : List ℤ) (s : ℕ) → vector_of v s ≡ at (map nat_abs v) s
 vector_at [] s = refl

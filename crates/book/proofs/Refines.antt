@@ -9,7 +9,7 @@ use Rattle.rules.specs.Book.{Book}
 use Rattle.rules.specs.Refine.{Refined, narrow, held, step, refine}
 use Rattle.rules.specs.Fit.{Within}
 use Rattle.rules.proofs.Sides.{least_attained, largest_attained}
-use Rattle.book.proofs.Rows.{scaled}
+use Rattle.book.proofs.RunSums.{scaled}
 
 -- numbers between F × rmin and F × rmax are small
 pub bounds_small : (T : Table) → Lawful T → (values : List ℤ) (n : ℕ) → Within (setting_of T) n (at_z values) → (k : ℕ) → k < n

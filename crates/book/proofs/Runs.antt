@@ -7,9 +7,9 @@ use Rattle.horizon.specs.Sums.{branch_sum_z, weighted_z}
 use Rattle.components.specs.Below.{any}
 use Rattle.rules.specs.Play.{enters}
 use Rattle.book.specs.Listed.{link_of}
-use Rattle.book.specs.Rows.{place_at, weight_at, run_sum}
+use Rattle.book.specs.RunSums.{place_at, weight_at, run_sum}
 use Rattle.book.proofs.Lists.{any_ext}
-use Rattle.book.proofs.Rows.{sum_n_cong, weighted_z_same}
+use Rattle.book.proofs.RunSums.{sum_n_cong, weighted_z_same}
 
 module _ (T : Table) (L : Lawful T) (s c : ℕ) (h : s < T.states) (k : c < T.choices s) (place : ℕ → ℕ) (run : List (ℕ × ℕ))
     (size : length run ≡ T.branches s c)

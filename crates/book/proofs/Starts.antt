@@ -10,6 +10,7 @@ use Rattle.table.specs.Limits.{Lawful}
 use Rattle.components.specs.Below.{first}
 use Rattle.components.specs.Inside.{inside}
 use Rattle.components.specs.Nodes.{nodes, node_of, components, in_component, lowest_of, component_at}
+use Rattle.components.proofs.Labels.{first_is}
 use Rattle.rules.specs.Book as rules
 use Rattle.rules.specs.Book.{start}
 use Rattle.rules.specs.Choosing.{tabulate}
@@ -23,7 +24,7 @@ use Rattle.book.specs.declared.book.Book.{Book}
 use Rattle.book.specs.Books.{book_of, Kept}
 use Rattle.book.specs.Facts.{node_states}
 use Rattle.book.specs.Starts.{first_inside, first_exit, Sized, Started}
-use Rattle.book.proofs.Lists.{Found, first_is}
+use Rattle.book.proofs.Lists.{Found}
 
 -- the recorded choice
 module _ (T : Table) (L : Lawful T) (s : ℕ) where
@@ -94,7 +95,7 @@ same : (t t' r r' : List ℕ) (lo lo' hi hi' x x' y y' : List ℤ) (p p' : List 
     → t ≡ t' → r ≡ r' → lo ≡ lo' → hi ≡ hi' → x ≡ x' → y ≡ y' → p ≡ p' → make t r lo hi x y p ≡ make t' r' lo' hi' x' y' p'
 same t t' r r' lo lo' hi hi' x x' y y' p p' a b c d e f g = rw (a, b, c, d, e, f, g) refl
 
--- the lists of a book hold the start
+-- the code's lists hold the start, list by list; `Started` says it of the book that they stand for
 pub record Holds (T : Table) (b : Book) : Type 0 where
   pub vector : vec_items b.vector ≡ replicate T.states (pos 0)
   pub recorded : vec_items b.recorded ≡ tabulate T.states (first_inside T)

@@ -7,6 +7,7 @@ use Rattle.table.specs.Limits.{Lawful}
 use Rattle.horizon.specs.Ring.{lin}
 use Rattle.components.specs.Below.{every}
 use Rattle.components.specs.Nodes.{nodes}
+use Rattle.decomposition.proofs.Searches.{every_ext}
 use Rattle.rules.specs.Choosing.{eq_z, at_z}
 use Rattle.rules.specs.Setting.{Setting, setting_of, least_reward, largest_reward}
 use Rattle.rules.specs.Book.{Book}
@@ -14,12 +15,12 @@ use Rattle.rules.specs.Sweep.{update, updates, sweep, still, sweeps}
 use Rattle.rules.specs.Fit.{Within}
 use Rattle.rules.proofs.Sides.{least_attained, largest_attained}
 use Rattle.rules.proofs.Updates.{x_other, y_other}
-use Rattle.book.specs.Sweeps.{Small, same_at}
-use Rattle.book.proofs.Rows.{scaled}
-use Rattle.book.proofs.Folds.{every_same}
+use Rattle.book.specs.Bounded.{AllBounded}
+use Rattle.book.specs.Sweeps.{same_at}
+use Rattle.book.proofs.RunSums.{scaled}
 
 -- numbers between F × rmin and F × rmax are small
-pub within_small : (T : Table) → Lawful T → (values : List ℤ) (n : ℕ) → length values ≡ n → Within (setting_of T) n (at_z values) → Small values
+pub within_small : (T : Table) → Lawful T → (values : List ℤ) (n : ℕ) → length values ≡ n → Within (setting_of T) n (at_z values) → AllBounded values
 within_small T L values n e w k h =
     let a = least_attained T L in
     let b = largest_attained T L in
@@ -63,7 +64,7 @@ module _ (M : Setting) (A : Book) where
       let B = updates M k A in
       let C = update M k B in
       let before : every k (same_at A C) ≡ quiet k =
-      every_same k (same_at A C) (same_at A B) (λ i h.
+      every_ext k (same_at A C) (same_at A B) (λ i h.
       ap (λ (z : ℤ). eq_z (at_z A.x i) z && eq_z (at_z A.y i) (at_z C.y i)) (x_other M k B i (λ e. omega arith))
       ∙ ap (λ (z : ℤ). eq_z (at_z A.x i) (at_z B.x i) && eq_z (at_z A.y i) z) (y_other M k B i (λ e. omega arith))) in
       let here : same_at B C k ≡ same_at A C k =

@@ -3,7 +3,7 @@ use Rattle.std.proofs.Common.{ℕ, ◌^◌, ◌<◌, ◌≤◌, length, get_or, 
 use Rattle.std.proofs.lemmas.Int.{ints}
 use Rattle.book.specs.Vectors.{vector_table, numbers}
 use Rattle.book.specs.declared.vector.Vector.{Vector}
-use Rattle.book.proofs.Rows.{natural_is}
+use Rattle.book.proofs.RunSums.{natural_is}
 
 pub numbers_small : (v : Vector) (s : ℕ) → s < (vector_table v).states → numbers v s ≤ 2 ^ 46
 numbers_small v s h =

@@ -17,7 +17,8 @@ book_of b = record {
   plan = vec_items b.plan;
 }
 
--- what the code's numbers of a table keep: the book fits, no number of a vector is negative, and there is working space for each state
+-- what the code's numbers of a table keep: their book fits (`Fit` of the rules), and beside that no number of a vector is negative and there is working space for each state;
+-- `keeps` is the same as a test
 pub record Kept (T : Table) (b : Book) : Type 0 where
   pub fit : Fit (setting_of T) (book_of b)
   pub natural : (s : ℕ) → s < T.states → pos 0 ≤ℤ slice_index_or (vec_items b.vector) s (pos 0)

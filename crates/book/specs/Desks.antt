@@ -11,7 +11,7 @@ use Rattle.rules.specs.Play.{play}
 use Rattle.rules.specs.Promises.{upper_at, lower_at}
 use Rattle.book.specs.Books.{book_of}
 use Rattle.book.specs.Layouts.{layout_table}
-use Rattle.book.specs.Rows.{Within}
+use Rattle.book.specs.Bounded.{Bounded}
 use Rattle.book.specs.declared.desk.Desk.{Desk}
 
 abbrev pub desk_table : Desk → Table
@@ -40,4 +40,4 @@ plan_in T B list = cond (nat_le T.states (length list)) (tabulate T.states (play
 
 -- small enough that the difference of two fits in 64 bits
 abbrev pub SmallBound : ℤ → Type 0
-SmallBound z = Within (2 ^ 46) z
+SmallBound z = Bounded (2 ^ 46) z

@@ -1,10 +1,10 @@
 -- What the lists of a layout hold of a table, one fact each.
-use Rattle.std.specs.Prelude.{◌≡◌, ℕ, ◌+◌, ◌-◌, ◌<◌, ◌≤◌, Bool, List, length, take, drop, Some, None, filter, Option, nat_eq, slice_index, slice_index_or}
-use Rattle.std.specs.List.{range_with_len}
+use Rattle.std.specs.Prelude.{◌≡◌, ℕ, ◌+◌, ◌-◌, ◌<◌, ◌≤◌, Bool, List, length, take, drop, Some, None, Option, slice_index, slice_index_or}
 use Rattle.table.specs.Table.{Table}
 use Rattle.components.specs.Inside.{inside}
 use Rattle.components.specs.Nodes.{nodes, node_of, components, component_at}
-use Rattle.decomposition.specs.Dropping.{Flagged}
+use Rattle.decomposition.specs.Flags.{Flagged}
+use Rattle.book.specs.Grouped.{states_at}
 
 -- the flag of each choice, 16 to a state, says whether it is inside
 abbrev pub InsidesAt : Table → List Bool → Type 0
@@ -23,7 +23,7 @@ StartsWithin T starts members = (v : ℕ) → v < nodes T → slice_index starts
 
 -- the states of a node, rising
 abbrev pub node_states : Table → ℕ → List ℕ
-node_states T v = filter (λ s. nat_eq (node_of T s) v) (range_with_len 0 T.states)
+node_states T v = states_at (node_of T) T.states v
 
 -- the same among the members, from where those of the node begin
 abbrev pub MembersAt : Table → List ℕ → List ℕ → Type 0

@@ -6,7 +6,7 @@ use Rattle.std.specs.List.{range_with_len}
 abbrev pub states_at : (ℕ → ℕ) → ℕ → ℕ → List ℕ
 states_at node k v = filter (λ s. nat_eq (node s) v) (range_with_len 0 k)
 
--- the members are those of the first k states that are in the first n nodes; those of the node v begin at the place v of starts
+-- the members are those of the first k states that are in the first n nodes; those of the node v begin where `starts` says at v
 pub record Grouped (node : ℕ → ℕ) (k n : ℕ) (starts members : List ℕ) : Type 0 where
   pub size : length starts ≡ n + 1
   pub few : length members ≤ 256 * n

@@ -1,4 +1,4 @@
--- What the code's numbers of a table keep, as a test.
+-- What the code's numbers of a table keep, as a test: each one passes exactly where the fact named above it holds.
 use Rattle.std.specs.Prelude.{ℕ, Bool, true, ◌&&◌, length, ℤ, pos, vec_items, vec_len, ◌==◌, int_le, nat_le, nat_lt, slice_index_or}
 use Rattle.table.specs.Table.{Table}
 use Rattle.components.specs.Below.{every, any}
@@ -12,8 +12,8 @@ use Rattle.book.specs.Books.{book_of}
 use Rattle.book.specs.declared.book.Book.{Book}
 
 -- `Lengths`
-abbrev pub sized : Setting → rules.Book → Bool
-sized M B =
+abbrev pub lengths : Setting → rules.Book → Bool
+lengths M B =
     (length B.vector == M.table.states) && (length B.recorded == M.table.states
     && (length B.lo == components M.table && (length B.hi == components M.table
     && (length B.x == nodes M.table && (length B.y == nodes M.table
@@ -41,7 +41,7 @@ exit_fits M v (Leave t c) = nat_lt t M.table.states && (node_of M.table t == v &
 -- `Fit`
 abbrev pub fits : Setting → rules.Book → Bool
 fits M B =
-    sized M B && (vector_fits M (at B.vector) && (recorded_fits M (at B.recorded)
+    lengths M B && (vector_fits M (at B.vector) && (recorded_fits M (at B.recorded)
     && (within M (components M.table) (at_z B.lo) && (within M (components M.table) (at_z B.hi)
     && (within M (nodes M.table) (at_z B.x) && (within M (nodes M.table) (at_z B.y)
     && every (nodes M.table) (λ v. exit_fits M v (rules.exit_at B.plan v))))))))

@@ -1,4 +1,5 @@
-pub mod Rows
+pub mod Bounded
+pub mod RunSums
 pub mod Books
 pub mod Inside
 pub mod Plays
@@ -9,6 +10,6 @@ pub mod Grouped
 pub mod Facts
 pub mod Layouts
 pub mod Vectors
-pub mod Faces
+pub mod SideBounds
 pub mod Keeps
 pub mod Desks

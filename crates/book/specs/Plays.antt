@@ -4,9 +4,8 @@ use Rattle.std.specs.Option.{option_eq}
 use Rattle.table.specs.Table.{Table}
 use Rattle.components.specs.Below.{first}
 use Rattle.components.specs.Inside.{inside}
-use Rattle.components.specs.Nodes.{nodes, node_of}
+use Rattle.components.specs.Nodes.{node_of}
 use Rattle.rules.specs.Choosing.{at}
-use Rattle.rules.specs.Book.{exit_at}
 use Rattle.rules.specs.Play.{enters, distance, toward}
 use Rattle.rules.specs.declared.exit.Exit.{Exit}
 use Rattle.rules.specs.declared.exit.Exit.TheVariants.{Stay, Leave}
@@ -39,15 +38,7 @@ abbrev pub Ready : Table → ℕ → Exit → List (Option ℕ) → Type 0
 Ready T v Stay distances = Unit {0}
 Ready T v (Leave t c) distances = Measured T v t distances
 
--- what s plays where the exit of its node is known
+-- `play` of a state by the exit of its node
 abbrev pub play_by : Table → List ℕ → Exit → ℕ → ℕ
 play_by T recorded Stay s = at recorded s
 play_by T recorded (Leave t c) s = cond (s == t) c (toward T t s)
-
--- an exit of node v that leaves names a state of that node
-abbrev pub NamesState : Table → ℕ → Exit → Type 0
-NamesState T v Stay = Unit {0}
-NamesState T v (Leave t c) = (t < T.states) × (node_of T t ≡ v)
-
-abbrev pub Named : Table → List Exit → Type 0
-Named T plan = (v : ℕ) → v < nodes T → NamesState T v (exit_at plan v)

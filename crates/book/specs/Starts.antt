@@ -11,15 +11,15 @@ use Rattle.rules.specs.declared.exit.Exit.TheVariants.{Stay, Leave}
 use Rattle.book.specs.Books.{book_of, Kept}
 use Rattle.book.specs.declared.book.Book.{Book}
 
--- the choice recorded of a state: its first inside choice, and 0 of a lone state
+-- the choice that `start` records of a state: its first inside choice, and 0 of a lone state
 abbrev pub first_inside : Table → ℕ → ℕ
 first_inside T s = cond (in_component T s) (first (T.choices s) (inside T s)) 0
 
--- the plan of a node: a component stays, a lone state plays its choice 0
+-- the plan of a node in `start`: a component stays, a lone state plays its choice 0
 abbrev pub first_exit : Table → ℕ → Exit
 first_exit T v = elim (component_at T v) [ Some i ↦ Stay | None ↦ Leave (lowest_of T v) 0 ]
 
--- each list has the places that it needs
+-- each list has the places that it needs, whatever stands there; a book that is `Kept` has them
 pub record Sized (T : Table) (b : Book) : Type 0 where
   pub vector : vec_len b.vector ≡ T.states
   pub recorded : vec_len b.recorded ≡ T.states
@@ -32,7 +32,7 @@ pub record Sized (T : Table) (b : Book) : Type 0 where
   pub marks : vec_len b.marks ≡ T.states
   pub distances : vec_len b.distances ≡ T.states
 
--- the book is the start, and keeps what a book keeps
+-- the book is the start, and is `Kept`
 pub record Started (T : Table) (b : Book) : Type 0 where
   pub start : book_of b ≡ start (setting_of T)
   pub kept : Kept T b

@@ -5,7 +5,7 @@ ghost use Rattle.rules.specs.Refine as refining;
 ghost use Rattle.rules.specs.Setting.{setting_of};
 ghost use Rattle.book.specs.Vectors.{vector_table, numbers};
 ghost use Rattle.book.specs.Inside.{over_inside, choice_or};
-ghost use Rattle.book.specs.Rows.{Within};
+ghost use Rattle.book.specs.Bounded.{Bounded};
 
 use crate::best::improved;
 use crate::mean::{total, worth};
@@ -64,6 +64,7 @@ impl Vector<'_> {
     }
 
     // The best inside choice of a state on either side, each weighted sum computed once for both.
+    // A loop: a `fold` over the inside choices would name the same steps in a closure.
     fn best_inside(&self, state: u32) -> (Option<Candidate>, Option<Candidate>)
         requires { state < (vector_table self.now).states }
         ensures upper { result.0 ≡ over_inside (vector_table self.now) (refining.worth (setting_of (vector_table self.now)) round_up (numbers self.now) state) state ((vector_table self.now).choices state) }
@@ -89,7 +90,7 @@ impl Vector<'_> {
         ensures up { result.up ≡ refining.gain (setting_of (vector_table self.now)) round_up (numbers self.now) state }
         ensures down { result.down ≡ refining.gain (setting_of (vector_table self.now)) round_down (numbers self.now) state }
         ensures choice { result.choice ≡ refining.attains (setting_of (vector_table self.now)) (numbers self.now) state }
-        ensures range { Within (2 ^ 48) result.up × Within (2 ^ 48) result.down }
+        ensures range { Bounded (2 ^ 48) result.up × Bounded (2 ^ 48) result.down }
     {
         let (upper, lower) = self.best_inside(state);
         let here = self.numbers[state as usize];

@@ -29,6 +29,7 @@ fn add_members(
 }
 
 // The states of each node, node by node.
+// It looks at all states for each node, at most 65,536 tests, once in a load; to count the states of each node and then place them would be linear, but three loops.
 pub(crate) fn group_states(heap: Global, parts: &Parts, states: u32) -> Result<Groups, LoadFault>
     requires { states ≤ 256 }
     ensures { Copies result (λ groups. Grouped (node_in parts.now) states (vec_len parts.now.component) groups.starts.items groups.members.items) }

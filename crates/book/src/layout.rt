@@ -8,7 +8,8 @@ ghost use Rattle.book.specs.Facts.{InsidesAt, NodesAt, StartsRise, StartsWithin,
 use model::Model;
 
 // The engine's own copy of a lawful table, with its components and nodes in flat lists.
-// Not a list for each state or choice: flat data, and no allocation after loading, is a rule of the project.
+// Not a list for each state or choice: flat data, and no allocation after loading, is a rule of the project. The lists of the parts stand
+// one by one, as the facts below speak of each.
 #[derive(Drop)]
 pub struct Layout {
     pub(crate) model: Model,

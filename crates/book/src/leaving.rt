@@ -5,14 +5,15 @@ ghost use Rattle.components.specs.Nodes.{nodes, components};
 ghost use Rattle.rules.specs.Setting.{setting_of};
 ghost use Rattle.rules.specs.Sweep.{better, over_choices, staying, best_of};
 ghost use Rattle.book.specs.Layouts.{layout_table};
-ghost use Rattle.book.specs.Rows.{place_at, weight_at, run_sum, Small};
+ghost use Rattle.book.specs.Bounded.{AllBounded};
+ghost use Rattle.book.specs.RunSums.{place_at, weight_at, run_sum};
 ghost use Rattle.book.specs.Sweeps.{stay_in};
-ghost use Rattle.book.specs.Faces.{faces_table, faces_setting, upper_means, lower_means};
+ghost use Rattle.book.specs.SideBounds.{bounds_table, bounds_setting, upper_means, lower_means};
 
 use crate::best::improved;
-use crate::faces::Faces;
 use crate::layout::Layout;
 use crate::mean::total;
+use crate::side_bounds::SideBounds;
 use horizon::{LowerSide, Side, UpperSide};
 use rules::{Candidate, Exit};
 
@@ -26,7 +27,7 @@ fn leave<S: Side>(
 ) -> Option<Candidate>
     requires inside { (b : ℕ) → b < length run.now → place_at run.now b < length values.now }
     requires light { sum_n (length run.now) (weight_at run.now) ≤ 2 ^ 16 }
-    requires small { Small values.now }
+    requires small { AllBounded values.now }
     ensures { result ≡ better best (record { value = S.rounds (run_sum run.now values.now) denominator; exit = exit }) }
 {
     let value = S::round(total(run, values), denominator);
@@ -53,7 +54,7 @@ fn stay(layout: &Layout, bounds: &[i64], node: u32) -> Option<Candidate>
     stay_in(layout.component_at(node), bounds)
 }
 
-impl Faces<'_> {
+impl SideBounds<'_> {
     // The best so far on either side, after the leaving choices of one state, each looked at once for both.
     // A loop: a `fold` over the choices that leave would name the same steps in a closure.
     fn best_choices(
@@ -62,9 +63,9 @@ impl Faces<'_> {
         mut upper: Option<Candidate>,
         mut lower: Option<Candidate>,
     ) -> (Option<Candidate>, Option<Candidate>)
-        requires { state < (faces_table self.now).states }
-        ensures upper { result.0 ≡ over_choices (faces_setting self.now) (upper_means self.now) state ((faces_table self.now).choices state) upper }
-        ensures lower { result.1 ≡ over_choices (faces_setting self.now) (lower_means self.now) state ((faces_table self.now).choices state) lower }
+        requires { state < (bounds_table self.now).states }
+        ensures upper { result.0 ≡ over_choices (bounds_setting self.now) (upper_means self.now) state ((bounds_table self.now).choices state) upper }
+        ensures lower { result.1 ≡ over_choices (bounds_setting self.now) (lower_means self.now) state ((bounds_table self.now).choices state) lower }
     {
         let denominator = self.layout.model.rows.denominator;
         for choice in 0..self.layout.choices(state) {
@@ -80,9 +81,9 @@ impl Faces<'_> {
 
     // The first of the largest candidates of a node on either side: to stay, then the leaving choices by state and choice.
     pub(crate) fn best_exits(&self, node: u32) -> (Option<Candidate>, Option<Candidate>)
-        requires { node < nodes (faces_table self.now) }
-        ensures upper { result.0 ≡ best_of (faces_setting self.now) round_up self.now.hi.now self.now.x.now node }
-        ensures lower { result.1 ≡ best_of (faces_setting self.now) round_down self.now.lo.now self.now.y.now node }
+        requires { node < nodes (bounds_table self.now) }
+        ensures upper { result.0 ≡ best_of (bounds_setting self.now) round_up self.now.hi.now self.now.x.now node }
+        ensures lower { result.1 ≡ best_of (bounds_setting self.now) round_down self.now.lo.now self.now.y.now node }
     {
         let mut upper = stay(self.layout, self.hi, node);
         let mut lower = stay(self.layout, self.lo, node);

@@ -4,7 +4,6 @@
 mod best;
 mod book;
 mod desk;
-mod faces;
 mod gain;
 mod groups;
 mod lay;
@@ -16,6 +15,7 @@ mod places;
 mod play;
 mod refine;
 mod serve;
+mod side_bounds;
 mod start;
 mod sweep;
 mod vector;

@@ -19,6 +19,7 @@ fn run_in(list: &[(u32, u32)], row: ChoiceRow) -> &[(u32, u32)]
 
 // What a layout holds, place by place.
 // That a state, a choice, a node or a component is one of the table is asked at each call, since each asks of another one.
+// They stand beside the look-ups of a model and of its parts, which are total and test each place: these are of the inner loops, and test nothing.
 impl Layout {
     // How many states there are.
     pub(crate) fn states(&self) -> u32
@@ -99,6 +100,7 @@ impl Layout {
         requires choice { choice < (layout_table self.now).choices state }
         ensures { result ≡ inside (layout_table self.now) state choice }
     {
+        // 16 to a state, as the parts lay them; their own place is a function of crate decomposition alone
         self.inside[16 * state as usize + choice as usize]
     }
 

@@ -3,9 +3,11 @@ ghost use Rattle.components.specs.Below.{any};
 ghost use Rattle.components.specs.Nodes.{nodes, node_of};
 ghost use Rattle.rules.specs.Book.{exit_at};
 ghost use Rattle.rules.specs.Choosing.{at};
-ghost use Rattle.book.specs.Rows.{place_at};
+ghost use Rattle.book.specs.RunSums.{place_at};
 ghost use Rattle.book.specs.Layouts.{layout_table};
-ghost use Rattle.book.specs.Plays.{mark_at, has_mark, inside_into, first_into, Fresh, Measured, Ready, play_by, Named};
+ghost use Rattle.book.specs.Plays.{mark_at, has_mark, inside_into, first_into, Fresh, Measured, Ready, play_by};
+ghost use Rattle.rules.specs.Fit.{PlanFits};
+ghost use Rattle.rules.specs.Setting.{setting_of};
 
 use crate::layout::Layout;
 use rules::Exit;
@@ -34,11 +36,8 @@ impl Marked<'_> {
         requires chosen { choice < (layout_table self.now.layout.now).choices state }
         ensures { result ≡ inside_into (layout_table self.now.layout.now) self.now.distances.now mark state choice }
     {
-        if self.layout.is_inside(state, choice) {
-            enters(self.layout.branches_of(state, choice), self.distances, mark)
-        } else {
-            false
-        }
+        self.layout.is_inside(state, choice)
+            && enters(self.layout.branches_of(state, choice), self.distances, mark)
     }
 
     // The first inside choice of a state with a branch to a state with the mark, or how many choices the state has:
@@ -105,7 +104,7 @@ impl Marked<'_> {
     }
 }
 
-// Takes away the marks of the states of a node.
+// Takes away the marks of the states of a node. Here and below the list of marks is written, so it is no `Marked`, which lends it to be read.
 fn unmark(layout: &Layout, distances: &mut [Option<u32>], node: u32)
     requires node { node < nodes (layout_table layout.now) }
     requires room { (layout_table layout.now).states ≤ length distances.old }
@@ -154,7 +153,7 @@ pub(crate) fn write_nodes(
 )
     requires recorded { (layout_table layout.now).states ≤ length recorded.now }
     requires plan { length plan.now ≡ nodes (layout_table layout.now) }
-    requires named { Named (layout_table layout.now) plan.now }
+    requires fits { PlanFits (setting_of (layout_table layout.now)) (exit_at plan.now) }
     requires distances { (layout_table layout.now).states ≤ length distances.old }
     requires room { (layout_table layout.now).states ≤ length list.old }
     ensures written { (s : ℕ) → s < (layout_table layout.now).states → at list.new s ≡ play_by (layout_table layout.now) recorded.now (exit_at plan.now (node_of (layout_table layout.now) s)) s }

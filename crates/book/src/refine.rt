@@ -7,7 +7,7 @@ ghost use Rattle.rules.specs.Setting.{setting_of};
 ghost use Rattle.book.specs.Layouts.{layout_table};
 ghost use Rattle.book.specs.Books.{book_of, Kept};
 ghost use Rattle.book.specs.Desks.{desk_table, desk_book};
-ghost use Rattle.book.specs.Rows.{Within};
+ghost use Rattle.book.specs.Bounded.{Bounded};
 ghost use Rattle.book.specs.Vectors.{vector_table, numbers};
 
 use crate::book::Book;
@@ -30,7 +30,7 @@ struct Extremes {
 // A number and half of what it gains, rounded down.
 fn half_way(here: i64, down: i64) -> i64
     requires here { (pos 0 ≤ℤ here) × (here ≤ℤ pos (2 ^ 46)) }
-    requires down { Within (2 ^ 48) down }
+    requires down { Bounded (2 ^ 48) down }
     ensures { result ≡ here +ℤ round_down down 2 }
 {
     here + LowerSide::round(down, 2)
@@ -134,15 +134,15 @@ fn lower(hi: &mut [i64], component: usize, up: i64)
 
 // Whether the halfway numbers are more than H apart.
 fn apart(found: Extremes) -> bool
-    requires least { Within (2 ^ 50) found.least }
-    requires largest { Within (2 ^ 50) found.largest }
+    requires least { Bounded (2 ^ 50) found.least }
+    requires largest { Bounded (2 ^ 50) found.largest }
     ensures { result ≡ int_lt (pos (2 ^ 46)) (found.largest -ℤ found.least) }
 {
     CAP < found.largest - found.least
 }
 
-// One step at a component; answers whether it was held. It takes the layout and the book of a desk: it lends six lists of the book
-// one after the other, and the desk keeps what it keeps only once all of them are back.
+// One step at a component; answers whether it was held. It takes the layout and the book of a desk, and is no method of it: it lends six lists of
+// the book one after the other, and after each what the desk keeps would have to be shown again, where it is shown here once.
 fn refine_step(layout: &Layout, book: &mut Book, component: u32) -> bool
     requires kept { Kept (layout_table layout.now) book.old }
     requires component { component < components (layout_table layout.now) }
@@ -177,8 +177,8 @@ fn refine_step(layout: &Layout, book: &mut Book, component: u32) -> bool
 fn narrow(lo: &[i64], hi: &[i64], component: usize, width: u64) -> bool
     requires lo { component < length lo.now }
     requires hi { component < length hi.now }
-    requires low { Within (2 ^ 46) (at_z lo.now component) }
-    requires high { Within (2 ^ 46) (at_z hi.now component) }
+    requires low { Bounded (2 ^ 46) (at_z lo.now component) }
+    requires high { Bounded (2 ^ 46) (at_z hi.now component) }
     ensures { result ≡ int_le (at_z hi.now component -ℤ at_z lo.now component) (pos width) }
 {
     i128::from(hi[component] - lo[component]) <= i128::from(width)

@@ -13,7 +13,8 @@ use crate::layout::Layout;
 use rules::{Exit, SCALE};
 use std::alloc::{AllocError, Global};
 
-// The widest bounds: F times the least and the largest reward.
+// The widest bounds: F times the least and the largest reward. Not by a step's `scaled`: that asks for a reward within its limits, and a proof
+// of that for these two would be longer than the product.
 fn widest(layout: &Layout) -> (i64, i64)
     ensures bottom { result.0 ≡ bottom (setting_of (layout_table layout.now)) }
     ensures top { result.1 ≡ top (setting_of (layout_table layout.now)) }
@@ -52,7 +53,8 @@ fn first_exit(layout: &Layout, node: u32) -> Exit
     }
 }
 
-// Records the first inside choice of each state.
+// Records the first inside choice of each state. Beside `plan_first` and not one function with the value in a closure: its contract would
+// have to tell the list by what the closure may give, for one line less.
 fn record_first(layout: &Layout, recorded: &mut [u32])
     requires size { length recorded.old ≡ (layout_table layout.now).states }
     ensures { recorded.new ≡ tabulate (layout_table layout.now).states (first_inside (layout_table layout.now)) }

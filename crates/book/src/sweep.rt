@@ -8,7 +8,7 @@ ghost use Rattle.book.specs.Desks.{desk_table, desk_book};
 ghost use Rattle.book.specs.Sweeps.{same_at};
 
 use crate::desk::Desk;
-use crate::faces::Faces;
+use crate::side_bounds::SideBounds;
 use rules::{Candidate, Exit};
 
 // The exit of the best candidate if it is above what was there, else the one before.
@@ -49,14 +49,14 @@ impl Desk {
         ensures book { desk_book self.new ≡ update (setting_of (desk_table self.old)) node (desk_book self.old) }
         ensures same { result ≡ same_at (desk_book self.old) (desk_book self.new) node }
     {
-        let faces = Faces {
+        let bounds = SideBounds {
             layout: &self.layout,
             hi: &self.book.hi,
             x: &self.book.x,
             lo: &self.book.lo,
             y: &self.book.y,
         };
-        let (upper, lower) = faces.best_exits(node);
+        let (upper, lower) = bounds.best_exits(node);
         let place = node as usize;
         let before = self.book.y[place];
         let same_x = settle(&mut self.book.x, place, upper);

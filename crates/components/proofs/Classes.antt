@@ -3,7 +3,7 @@ use Rattle.std.proofs.Common.{◌≡◌, ℕ, ◌<◌, true, ◌&&◌, ◌||◌,
 use Rattle.std.proofs.lemmas.Bool.{and_parts, and_from, or_cases, or_left, or_right, eq-eqb, eqb-true}
 use Rattle.table.specs.Table.{Table, successor}
 use Rattle.table.specs.Limits.{Lawful}
-use Rattle.components.specs.EndComponent.{States, Choices, Choice, Reaches, stays, EndComponent, Maximal, StatesWithin, ChoicesWithin}
+use Rattle.components.specs.EndComponent.{States, Choices, Choice, Reaches, stays, EndComponent, Maximal, StatesIncluded, ChoicesIncluded}
 use Rattle.components.specs.Inside.{reach}
 use Rattle.components.proofs.Reach.{within, trans, once, more, narrowed, reach_iff}
 use Rattle.components.proofs.Reversible.{Reversible, Greatest, Acts, acts_before, acts_more, back}
@@ -31,7 +31,7 @@ end_acts e s h r =
     (e.connected s x.0 h x.2.state r (e.owned x.0 x.1 x.2 x.3))
 
 module _ (T : Table) (law : Lawful T) (A : Choices) (G : Greatest T A) where
-  pub end_within : {R : States} {B : Choices} → EndComponent T R B → ChoicesWithin T B A
+  pub end_within : {R : States} {B : Choices} → EndComponent T R B → ChoicesIncluded T B A
   end_within {R} {B} e = G.greatest B (end_reversible law e)
 
   -- two states of a class reach one another
@@ -63,12 +63,12 @@ module _ (T : Table) (law : Lawful T) (A : Choices) (G : Greatest T A) where
   }
 
   -- what an end component with the root of a class has lies in the class
-  end_inside : {R R' : States} {B' : Choices} (k : Class T A R) → EndComponent T R' B' → R' k.root ≡ true → StatesWithin T R' R
+  end_inside : {R R' : States} {B' : Choices} (k : Class T A R) → EndComponent T R' B' → R' k.root ≡ true → StatesIncluded T R' R
   end_inside k e r t ht et =
       (k.reached t ht).1 (more (end_within e) (e.connected k.root t k.acts.of.state ht r et))
 
   end_choices_inside : {R R' : States} {B' : Choices} (k : Class T A R) → EndComponent T R' B' → R' k.root ≡ true
-      → ChoicesWithin T B' (of_states R A)
+      → ChoicesIncluded T B' (of_states R A)
   end_choices_inside {R} k e r s c p a =
       and_from (R s) (A s c) (end_inside k e r s p.state (e.owned s c p a)) (end_within e s c p a)
 
@@ -86,7 +86,7 @@ module _ (T : Table) (law : Lawful T) (A : Choices) (G : Greatest T A) where
 
   -- a maximal end component is the class of each of its states
   pub only_classes : (R : States) (B : Choices) → Maximal T R B
-      → Class T A R × ChoicesWithin T B (of_states R A) × ChoicesWithin T (of_states R A) B
+      → Class T A R × ChoicesIncluded T B (of_states R A) × ChoicesIncluded T (of_states R A) B
   only_classes R B m = (k, end_choices_inside k e r, choices_back)
     where
       e : EndComponent T R B
@@ -105,7 +105,7 @@ module _ (T : Table) (law : Lawful T) (A : Choices) (G : Greatest T A) where
       K : States
       K = reach T A s
 
-      l : StatesWithin T K R × ChoicesWithin T (of_states K A) B
+      l : StatesIncluded T K R × ChoicesIncluded T (of_states K A) B
       l = m.largest K (of_states K A) (class_end K (class_of s acts)) (end_inside (class_of s acts) e r) (end_choices_inside (class_of s acts) e r)
 
       k : Class T A R
@@ -117,7 +117,7 @@ module _ (T : Table) (law : Lawful T) (A : Choices) (G : Greatest T A) where
             (λ et. i.0 (end_inside (class_of s acts) e r t ht et), λ w. l.0 t ht (i.1 w));
       }
 
-      choices_back : ChoicesWithin T (of_states R A) B
+      choices_back : ChoicesIncluded T (of_states R A) B
       choices_back x d q a =
           let w = and_parts (R x) (A x d) a in
           l.1 x d q (and_from (K x) (A x d) (end_inside (class_of s acts) e r x q.state w.0) w.1)
@@ -133,7 +133,7 @@ module _ (T : Table) (law : Lawful T) (A : Choices) (G : Greatest T A) where
       G.greatest (added s c) reversible s c p
       (or_right (A s c) (eqb s s && eqb c c) (and_from (eqb s s) (eqb c c) (eq-eqb s s refl) (eq-eqb c c refl)))
     where
-      wider : ChoicesWithin T A (added s c)
+      wider : ChoicesIncluded T A (added s c)
       wider x d q a = or_left (A x d) (eqb x s && eqb d c) a
 
       returns : (x d b : ℕ) → x ≡ s → d ≡ c → b < T.branches x d → Reaches T A (successor T x d b) x

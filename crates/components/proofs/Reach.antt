@@ -4,7 +4,7 @@ use Rattle.std.proofs.lemmas.Bool.{cases_eq, and_parts, and_from, or_cases, or_l
 use Rattle.table.specs.Table.{Table, successor}
 use Rattle.table.specs.Limits.{Lawful}
 use Rattle.components.specs.Below.{any}
-use Rattle.components.specs.EndComponent.{Choices, Choice, Reaches, stays, steps, ChoicesWithin}
+use Rattle.components.specs.EndComponent.{Choices, Choice, Reaches, stays, steps, ChoicesIncluded}
 use Rattle.components.specs.Inside.{leads, via, reach}
 use Rattle.components.proofs.Below.{any_some, any_from, grid_from, grid_true}
 
@@ -24,7 +24,7 @@ once c b p a h = steps c b p a h stays
 pub same : {T : Table} {A : Choices} {s t : ℕ} → s ≡ t → Reaches T A s t
 same {T} {A} {s} e = subst (λ (x : ℕ). Reaches T A s x) e stays
 
-pub more : {T : Table} {A B : Choices} {s t : ℕ} → ChoicesWithin T A B → Reaches T A s t → Reaches T B s t
+pub more : {T : Table} {A B : Choices} {s t : ℕ} → ChoicesIncluded T A B → Reaches T A s t → Reaches T B s t
 more k stays = stays
 more k (steps {s = s} c b p a h r) = steps c b p (k s c p a) h (more k r)
 

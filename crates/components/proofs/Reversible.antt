@@ -5,7 +5,7 @@ use Rattle.table.specs.Sums.{sum_n}
 use Rattle.table.specs.Table.{Table, successor}
 use Rattle.table.specs.Limits.{Lawful}
 use Rattle.components.specs.Below.{every, count}
-use Rattle.components.specs.EndComponent.{Choices, Choice, Reaches, stays, steps, ChoicesWithin}
+use Rattle.components.specs.EndComponent.{Choices, Choice, Reaches, stays, steps, ChoicesIncluded}
 use Rattle.components.specs.Inside.{reach, pass, passes, inside}
 use Rattle.components.proofs.Below.{every_at, every_from, sum_le, sum_lt, count_le, count_lt, count_most, grid_true, grid_from}
 use Rattle.components.proofs.Settles.{settles}
@@ -16,7 +16,7 @@ Reversible T A = (s c b : ℕ) → Choice T s c → A s c ≡ true → b < T.bra
 
 -- each reversible set is within A
 abbrev pub Bounds : Table → Choices → Type 0
-Bounds T A = (X : Choices) → Reversible T X → ChoicesWithin T X A
+Bounds T A = (X : Choices) → Reversible T X → ChoicesIncluded T X A
 
 pub record Greatest (T : Table) (A : Choices) : Type 0 where
   pub reversible : Reversible T A
@@ -37,7 +37,7 @@ moves (steps c b p a h r) = inr (record { choice = c; of = p; chosen = a })
 pub acts_before : {T : Table} {A : Choices} {s t : ℕ} → Acts T A t → Reaches T A s t → Acts T A s
 acts_before {T} {A} a r = ⊎_elim (λ (e : _). subst (Acts T A) (sym e) a) (λ (b : Acts T A _). b) (moves r)
 
-pub acts_more : {T : Table} {A B : Choices} {s : ℕ} → ChoicesWithin T A B → Acts T A s → Acts T B s
+pub acts_more : {T : Table} {A B : Choices} {s : ℕ} → ChoicesIncluded T A B → Acts T A s → Acts T B s
 acts_more {s = s} w a = record { choice = a.choice; of = a.of; chosen = w s a.choice a.of a.chosen }
 
 -- by a reversible set each way can be gone back
@@ -60,21 +60,21 @@ all_bound A h X v s c p a = h s c p
 pub pass_bound : {T : Table} {A B : Choices} → Keeps T A B → Bounds T A → Bounds T B
 pass_bound k w X v s c p a = (k s c p).1 (w X v s c p a, λ b h. more (w X v) (v s c b p a h))
 
-pub settled_greatest : {T : Table} {A B : Choices} → Keeps T A B → Bounds T A → ChoicesWithin T A B → Greatest T A
+pub settled_greatest : {T : Table} {A B : Choices} → Keeps T A B → Bounds T A → ChoicesIncluded T A B → Greatest T A
 settled_greatest k g w = record {
   reversible = λ s c b p a h. ((k s c p).0 (w s c p a)).1 b h;
   greatest = g;
 }
 
 -- two greatest sets have the same choices
-pub greatest_same : {T : Table} {A B : Choices} → Greatest T A → Greatest T B → ChoicesWithin T A B
+pub greatest_same : {T : Table} {A B : Choices} → Greatest T A → Greatest T B → ChoicesIncluded T A B
 greatest_same {A = A} g h = h.greatest A g.reversible
 
 -- how many choices of the table a set has
 pub chosen : Table → Choices → ℕ
 chosen T A = sum_n T.states (λ s. count (T.choices s) (A s))
 
-chosen_lt : (T : Table) (A B : Choices) → ChoicesWithin T A B → (s c : ℕ) → Choice T s c → A s c ≡ false → B s c ≡ true
+chosen_lt : (T : Table) (A B : Choices) → ChoicesIncluded T A B → (s c : ℕ) → Choice T s c → A s c ≡ false → B s c ≡ true
     → chosen T A < chosen T B
 unfolding chosen
 chosen_lt T A B w s c p e f =
@@ -127,7 +127,7 @@ module _ (T : Table) (law : Lawful T) where
   keeps k = pass_keeps T law (passes T k)
 
   Settled : ℕ → Type 0
-  Settled k = ChoicesWithin T (passes T k) (passes T (suc k))
+  Settled k = ChoicesIncluded T (passes T k) (passes T (suc k))
 
   turn : (k : ℕ) → Settled k ⊎ (chosen T (passes T (suc k)) < chosen T (passes T k))
   unfolding Settled
@@ -160,7 +160,7 @@ module _ (T : Table) (law : Lawful T) where
       (settles (λ k. chosen T (passes T k)) Settled turn still n (chosen_most T (passes T 0)))
 
   -- a set that a pass does not change is that of the inside choices
-  pub settled_inside : (k : ℕ) → ChoicesWithin T (passes T k) (passes T (suc k)) → (s c : ℕ) → Choice T s c → passes T k s c ≡ inside T s c
+  pub settled_inside : (k : ℕ) → ChoicesIncluded T (passes T k) (passes T (suc k)) → (s c : ℕ) → Choice T s c → passes T k s c ≡ inside T s c
   settled_inside k w s c p =
       let g = settled_greatest (keeps k) (bound k) w in
       ⊎_elim

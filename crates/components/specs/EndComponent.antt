@@ -36,15 +36,15 @@ pub record EndComponent (T : Table) (R : States) (B : Choices) : Type 0 where
   pub connected : (s t : ℕ) → s < T.states → t < T.states → R s ≡ true → R t ≡ true → Reaches T B s t
 
 -- each state of R is in R'
-abbrev pub StatesWithin : Table → States → States → Type 0
-StatesWithin T R R' = (s : ℕ) → s < T.states → R s ≡ true → R' s ≡ true
+abbrev pub StatesIncluded : Table → States → States → Type 0
+StatesIncluded T R R' = (s : ℕ) → s < T.states → R s ≡ true → R' s ≡ true
 
 -- each choice of B is in B'
-abbrev pub ChoicesWithin : Table → Choices → Choices → Type 0
-ChoicesWithin T B B' = (s c : ℕ) → Choice T s c → B s c ≡ true → B' s c ≡ true
+abbrev pub ChoicesIncluded : Table → Choices → Choices → Type 0
+ChoicesIncluded T B B' = (s c : ℕ) → Choice T s c → B s c ≡ true → B' s c ≡ true
 
 -- no larger end component contains it: one that has all its states and choices has no others
 pub record Maximal (T : Table) (R : States) (B : Choices) : Type 0 where
   pub component : EndComponent T R B
-  pub largest : (R' : States) (B' : Choices) → EndComponent T R' B' → StatesWithin T R R' → ChoicesWithin T B B'
-      → StatesWithin T R' R × ChoicesWithin T B' B
+  pub largest : (R' : States) (B' : Choices) → EndComponent T R' B' → StatesIncluded T R R' → ChoicesIncluded T B B'
+      → StatesIncluded T R' R × ChoicesIncluded T B' B

@@ -2,17 +2,17 @@
 use Rattle.std.specs.Prelude.{◌≡◌, ℕ, ◌<◌, ◌≤◌, true, false, ◌↔◌, MatchOption, ◌≢◌}
 use Rattle.table.specs.Table.{Table, successor}
 use Rattle.table.specs.Limits.{Lawful}
-use Rattle.components.specs.EndComponent.{States, Choices, Choice, Reaches, EndComponent, Maximal, StatesWithin, ChoicesWithin}
+use Rattle.components.specs.EndComponent.{States, Choices, Choice, Reaches, EndComponent, Maximal, StatesIncluded, ChoicesIncluded}
 use Rattle.components.specs.Inside.{inside}
 use Rattle.components.specs.Nodes.{nodes, node_of, components, states_of_node, states_of, choices_of, component_at}
 use Rattle.components.specs.Depth.{IsDepth, depth}
 
 -- the same states of the table, and the same choices
 abbrev pub SameStates : Table → States → States → Type 0
-SameStates T R R' = StatesWithin T R R' × StatesWithin T R' R
+SameStates T R R' = StatesIncluded T R R' × StatesIncluded T R' R
 
 abbrev pub SameChoices : Table → Choices → Choices → Type 0
-SameChoices T B B' = ChoicesWithin T B B' × ChoicesWithin T B' B
+SameChoices T B B' = ChoicesIncluded T B B' × ChoicesIncluded T B' B
 
 -- s is the lowest state of R
 pub record Lowest (T : Table) (R : States) (s : ℕ) : Type 0 where

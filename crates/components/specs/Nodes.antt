@@ -1,5 +1,5 @@
 -- Components and nodes, as they compute. The node of a state is what it reaches by inside choices:
--- its component, or the state alone. Both are numbered by rising lowest state.
+-- its component, or the state alone; the nodes are the states of the quotient. Both are numbered by rising lowest state.
 use Rattle.std.specs.Prelude.{ℕ, cond, ◌&&◌, Some, None, Option, ◌==◌}
 use Rattle.table.specs.Table.{Table}
 use Rattle.components.specs.Below.{any, count, first}

@@ -1,25 +1,29 @@
 -- Worked tables, whose inside choices, nodes, components and depths follow by computation.
 -- Branches are written (successor, weight).
-use Rattle.std.specs.Prelude.{◌≡◌, ℕ, Bool, true, false, List, [], ◌∷◌, map, length, pos, Some, None, Option, slice_index_or}
+use Rattle.std.specs.Prelude.{◌≡◌, ℕ, Bool, true, false, List, [], ◌∷◌, map, length, get_or, ℤ, pos, Some, None, Option, slice_index_or}
 use Rattle.std.specs.List.{range_with_len}
 use Rattle.table.specs.Table.{Table}
 use Rattle.components.specs.Inside.{inside}
 use Rattle.components.specs.Nodes.{nodes, node_of, component_at}
 use Rattle.components.specs.Depth.{depth}
 
--- a table with rewards 0: for each state its choices, for each choice its branches
-abbrev pub plain : ℕ → List (List (List (ℕ × ℕ))) → Table
-plain w states = record {
+-- a table from its states, each a list of choices: reward and branches
+abbrev pub rows : ℕ → List (List (ℤ × List (ℕ × ℕ))) → Table
+rows w states = record {
   states = length states;
   denominator = w;
   choices = λ s. length (slice_index_or states s []);
-  reward = λ s c. pos 0;
-  branches = λ s c. length (slice_index_or (slice_index_or states s []) c []);
-  branch = λ s c b. slice_index_or (slice_index_or (slice_index_or states s []) c []) b (0, 0);
+  reward = λ s c. (get_or {A = ℤ × List (ℕ × ℕ)} (slice_index_or states s []) c (pos 0, [])).0;
+  branches = λ s c. length (get_or {A = ℤ × List (ℕ × ℕ)} (slice_index_or states s []) c (pos 0, [])).1;
+  branch = λ s c b. slice_index_or (get_or {A = ℤ × List (ℕ × ℕ)} (slice_index_or states s []) c (pos 0, [])).1 b (0, 0);
 }
 
+-- one with rewards 0: for each state its choices, for each choice its branches
+abbrev pub plain : ℕ → List (List (List (ℕ × ℕ))) → Table
+plain w states = rows w (map (map (λ branches. (pos 0, branches))) states)
+
 -- what a table is taken apart into
-pub record Parts : Type 0 where
+pub record WorkedParts : Type 0 where
   -- for each state, whether each choice is inside
   pub inside : List (List Bool)
   -- for each state its node
@@ -29,7 +33,7 @@ pub record Parts : Type 0 where
   -- for each node its depth
   pub depth : List ℕ
 
-abbrev pub parts_of : Table → Parts
+abbrev pub parts_of : Table → WorkedParts
 parts_of T = record {
   inside = map (λ s. map (inside T s) (range_with_len 0 (T.choices s))) (range_with_len 0 T.states);
   node = map (node_of T) (range_with_len 0 T.states);
@@ -57,7 +61,7 @@ left_cycle =
 abbrev pub worked_tables : List Table
 worked_tables = loop_state ∷ cycle ∷ lonely ∷ left_cycle ∷ []
 
-abbrev pub worked_parts : List Parts
+abbrev pub worked_parts : List WorkedParts
 worked_parts =
     record { inside = (true ∷ []) ∷ []; node = 0 ∷ []; component = Some 0 ∷ []; depth = 0 ∷ [] }
     ∷ record { inside = (true ∷ []) ∷ (true ∷ []) ∷ []; node = 0 ∷ 0 ∷ []; component = Some 0 ∷ []; depth = 0 ∷ [] }

@@ -1,5 +1,5 @@
 // The maximal end components of a table, its nodes and their depths. Each function stands for a law: its contract is the law.
-// It answers a number since, by a rule of this project, each public function can be turned wrong by an edit that is refused.
+// Each answers a number since, by a rule of this project, each public function can be turned wrong by an edit that is refused.
 #![tactic(auto)]
 
 ghost use Rattle.std.specs.Prelude.{◌≡◌, length};

@@ -4,6 +4,7 @@ ghost use Rattle.std.specs.Iterator.{YieldsFirstRef, at_most};
 ghost use Rattle.console.specs.Inputs.{next_line, lines_of, LinesLaw, Within};
 
 // Where the line that begins at `from` ends, and where the next line begins; none at the end of the input.
+// Its place is an argument, since a caller may hold an input whole; `Lines` goes by what is left, and asks at 0.
 pub fn next_line(input: &[u8], from: usize) -> Option<(usize, usize)>
     ensures finds { result ≡ next_line input.now from }
     ensures within { Within input.now from result }

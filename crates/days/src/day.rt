@@ -53,6 +53,7 @@ pub(crate) fn print_quote(rt: &HostRuntime, engine: &Engine, state: u64) -> io::
 
 // The choice of each of five states.
 pub(crate) fn print_plan(rt: &HostRuntime, engine: &mut Engine) -> io::Result<()> {
+    // an array: the caller's own list, as long as the band has states
     let mut list = [0u32; 5];
     match engine.plan(&mut list) {
         Ok(()) => println!(rt; "   {}", Plan(&list)),

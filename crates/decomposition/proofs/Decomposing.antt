@@ -1,5 +1,5 @@
 -- What a decomposition starts from, and what it comes to.
-use Rattle.std.proofs.Common.{◌≡◌, ℕ, ◌+◌, ◌*◌, ◌≤◌, Bool, true, false, ◌&&◌, List, [], length, get_or, take, replicate, vec_items, vec_len, Option, sym, ap, ◌∙◌, subst, arith}
+use Rattle.std.proofs.Common.{◌≡◌, ℕ, ◌+◌, ◌*◌, ◌≤◌, Bool, true, false, ◌&&◌, List, length, get_or, take, replicate, vec_items, vec_len, Option, ap, ◌∙◌, arith}
 use Rattle.std.proofs.lemmas.List.{get_or-replicate, get_or-take}
 use Rattle.std.proofs.lemmas.Bool.{lt-ltb}
 use Rattle.table.specs.Table.{Table}
@@ -9,12 +9,10 @@ use Rattle.components.specs.Inside.{inside}
 use Rattle.components.specs.Nodes.{is_lowest, nodes, components}
 use Rattle.components.proofs.Below.{count_most}
 use Rattle.components.proofs.Law.{every_lawful_table}
-use Rattle.decomposition.specs.Marking.{flag_at}
-use Rattle.decomposition.specs.Dropping.{AllSet, Flagged}
+use Rattle.decomposition.specs.Flags.{flag_at, Flagged, AllSet}
 use Rattle.decomposition.specs.Numbered.{Numbered}
 use Rattle.decomposition.specs.Decomposed.{Decomposed}
 use Rattle.decomposition.specs.declared.parts.Parts.{Parts}
-use Rattle.decomposition.proofs.Numbers.{none_numbered}
 
 pub all_set : (T : Table) → Lawful T → (flags : List Bool) → flags ≡ replicate 4096 true → AllSet T flags
 all_set T law flags e s c p =
@@ -31,10 +29,6 @@ own_flags T law A flags own f e s c p =
     let h = p.state in
     let l = p.choice in
     ap (λ (xs : List Bool). get_or xs (16 * s + c) false) e ∙ get_or-take (16 * T.states) flags (16 * s + c) false (omega arith) ∙ f s c p
-
-pub empty_numbered : (T : Table) (node : List ℕ) (component : List (Option ℕ)) → node ≡ [] → component ≡ [] → Numbered T 0 node component 0
-empty_numbered T node component e f =
-    subst (λ xs. Numbered T 0 xs component 0) (sym e) (subst (λ ys. Numbered T 0 [] ys 0) (sym f) (none_numbered T))
 
 pub few_nodes : (T : Table) → Lawful T → {node : List ℕ} {component : List (Option ℕ)} {components : ℕ}
     → Numbered T T.states node component components → length component ≤ 256
@@ -59,7 +53,7 @@ decomposed T law p f n N l = record {
   node_size = N.size;
   node_is = N.node_at;
   nodes_are = l ∙ N.nodes;
-  component_is = N.component-at;
+  component_is = N.component_at;
   components_are = N.counted;
   law = every_lawful_table T law;
 }

@@ -1,10 +1,11 @@
 -- Bits that are set in a row, one after another, and Warshall's rule on bits.
-use Rattle.std.proofs.Common.{◌≡◌, ℕ, zero, suc, ◌+◌, ◌/◌, ◌%◌, ◌^◌, ◌<◌, ◌≤◌, Bool, true, false, ◌&&◌, ◌||◌, eqb, List, [], get_or, replicate, sym, refl, ap, ◌∙◌, ap₂, ⊎_elim, add-one, arith}
+use Rattle.std.proofs.Common.{◌≡◌, ℕ, zero, suc, ◌+◌, ◌/◌, ◌%◌, ◌^◌, ◌<◌, ◌≤◌, Bool, false, ◌&&◌, ◌||◌, eqb, List, [], get_or, replicate, sym, refl, ap, ◌∙◌, ap₂, ⊎_elim, add-one, arith}
 use native.Mathlib.Nat.{zero-div}
+use Rattle.std.proofs.Math.Bool.{or_assoc, and-or_distrib_left}
 use Rattle.std.proofs.lemmas.List.{get_or_past, get_or-replicate, length-replicate}
 use Rattle.std.proofs.lemmas.Bool.{cases_eq, cases_lt, eq-eqb, ne_eqb}
 use Rattle.table.specs.Table.{Table, successor}
-use Rattle.components.specs.Below.{any, every}
+use Rattle.components.specs.Below.{any}
 use Rattle.components.specs.EndComponent.{Choices}
 use Rattle.components.specs.Inside.{leads, via, reach}
 use Rattle.components.proofs.Below.{grid_at}
@@ -14,9 +15,6 @@ use Rattle.decomposition.specs.Marking.{branch_to, one_step, Shows, through, clo
 pub any_more : (k : ℕ) (p : ℕ → Bool) → any (k + 1) p ≡ (any k p || p k)
 any_more k p = rw add-one refl
 
-pub every_more : (k : ℕ) (p : ℕ → Bool) → every (k + 1) p ≡ (every k p && p k)
-every_more k p = rw add-one refl
-
 pub eqb_turn : (a b : ℕ) → eqb a b ≡ eqb b a
 eqb_turn a b =
     ⊎_elim
@@ -24,19 +22,8 @@ eqb_turn a b =
     (λ (e : a ≡ b → ⊥). ne_eqb a b e ∙ sym (ne_eqb b a (λ f. e (sym f))))
     (cases_eq a b)
 
-or_nothing : (x e : Bool) → x ≡ (x || (e && false))
-or_nothing true true = refl
-or_nothing true false = refl
-or_nothing false true = refl
-or_nothing false false = refl
-
 or_join : (x e p q : Bool) → ((x || (e && p)) || (e && q)) ≡ (x || (e && (p || q)))
-or_join true e p q = refl
-or_join false true p q = refl
-or_join false false p q = refl
-
-pub marks_none : (rows : List (List ℕ)) (row : ℕ) → Marks rows rows row (λ t. false)
-marks_none rows row r t h = or_nothing (bit_at rows r t) (eqb r row)
+or_join x e p q = or_assoc x (e && p) (e && q) ∙ ap (λ (y : Bool). x || y) (sym (and-or_distrib_left e p q))
 
 pub marks_join : (a b c : List (List ℕ)) (row : ℕ) (p q : ℕ → Bool) → Marks a b row p → Marks b c row q → Marks a c row (λ t. p t || q t)
 marks_join a b c row p q m n r t h =
@@ -60,65 +47,10 @@ branch_more T s c b u old now next m n e =
 abbrev pub by_choices : Table → Choices → ℕ → ℕ → ℕ → Bool
 by_choices T A s k t = any k (λ c. A s c && branch_to T s c t)
 
-pub choice_kept : (T : Table) (A : Choices) (s k : ℕ) (old now next : List (List ℕ)) → A s k ≡ true
-    → Marks old now s (by_choices T A s k) → Marks now next s (branch_to T s k) → Marks old next s (by_choices T A s (k + 1))
-choice_kept T A s k old now next e m n =
-    marks_ext old next s (λ t. by_choices T A s k t || branch_to T s k t) (by_choices T A s (k + 1))
-    (λ t.
-    ap (λ (x : Bool). by_choices T A s k t || (x && branch_to T s k t)) (sym e)
-    ∙ sym (any_more k (λ c. A s c && branch_to T s c t)))
-    (marks_join old now next s (by_choices T A s k) (branch_to T s k) m n)
-
-or_false : (x : Bool) → x ≡ (x || false)
-or_false true = refl
-or_false false = refl
-
-pub choice_dropped : (T : Table) (A : Choices) (s k : ℕ) (old now : List (List ℕ)) → A s k ≡ false
-    → Marks old now s (by_choices T A s k) → Marks old now s (by_choices T A s (k + 1))
-choice_dropped T A s k old now e m =
-    marks_ext old now s (by_choices T A s k) (by_choices T A s (k + 1))
-    (λ t.
-    or_false (by_choices T A s k t)
-    ∙ ap (λ (x : Bool). by_choices T A s k t || (x && branch_to T s k t)) (sym e)
-    ∙ sym (any_more k (λ c. A s c && branch_to T s c t))) m
-
-pub state_marked : (T : Table) (A : Choices) (s : ℕ) (old now next : List (List ℕ))
-    → Marks old now s (λ t. eqb t s) → Marks now next s (by_choices T A s (T.choices s)) → Marks old next s (one_step T A s)
-state_marked T A s old now next m n =
-    marks_ext old next s (λ t. eqb t s || leads T A s t) (one_step T A s)
-    (λ t. ap (λ (x : Bool). x || leads T A s t) (eqb_turn t s))
-    (marks_join old now next s (λ t. eqb t s) (leads T A s) m n)
-
 -- the rows before k are marked, the others clear
 pub record Rows (T : Table) (A : Choices) (k : ℕ) (rows : List (List ℕ)) : Type 0 where
   pub done : (r t : ℕ) → t < 256 → r < k → bit_at rows r t ≡ one_step T A r t
   pub rest : (r t : ℕ) → t < 256 → k ≤ r → bit_at rows r t ≡ false
-
-pub rows_none : (T : Table) (A : Choices) (rows : List (List ℕ)) → ((r t : ℕ) → bit_at rows r t ≡ false) → Rows T A 0 rows
-rows_none T A rows h = record {
-  done = λ r t l k. absurd (let z : r < 0 = k in omega arith);
-  rest = λ r t l k. h r t;
-}
-
-pub rows_more : (T : Table) (A : Choices) (k : ℕ) (rows next : List (List ℕ)) → Rows T A k rows → Marks rows next k (one_step T A k)
-    → Rows T A (k + 1) next
-rows_more T A k rows next w m = record {
-  done = λ r t l h. ⊎_elim
-      (λ (e : r ≡ k).
-      m r t l
-      ∙ ap₂ (λ (x y : Bool). x || (y && one_step T A k t)) (w.rest r t l (omega arith)) (eq-eqb r k e)
-      ∙ ap (λ (x : ℕ). one_step T A x t) (sym e))
-      (λ (e : r ≡ k → ⊥).
-      m r t l
-      ∙ ap₂ (λ (x y : Bool). x || (y && one_step T A k t)) (w.done r t l (omega arith)) (ne_eqb r k e)
-      ∙ sym (or_false (one_step T A r t)))
-      (cases_eq r k);
-  rest = λ r t l h.
-      m r t l ∙ ap₂ (λ (x y : Bool). x || (y && one_step T A k t)) (w.rest r t l (omega arith)) (ne_eqb r k (λ e. omega arith));
-}
-
-pub rows_all : (T : Table) (A : Choices) (rows : List (List ℕ)) → T.states ≤ 256 → Rows T A T.states rows → Shows T.states rows (one_step T A)
-rows_all T A rows l w s t h k = w.done s t (omega arith) h
 
 -- Warshall's rule: the rows before i have the ways through the middle state, the others are as they were
 pub record Passing (n : ℕ) (old now : List (List ℕ)) (middle i : ℕ) : Type 0 where

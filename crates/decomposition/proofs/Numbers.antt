@@ -2,7 +2,7 @@
 use Rattle.std.proofs.Common.{◌≡◌, ℕ, zero, suc, ◌+◌, ◌<◌, ◌≤◌, Bool, true, false, cond, ◌||◌, List, [], ◌∷◌, ◌++◌, length, get_or, Some, None, Option, sym, refl, ap, ◌∙◌, subst, ap₂, ⊎_elim, add-one, arith}
 use Rattle.std.specs.Bool.{then_some}
 use Rattle.std.specs.Int.{from_bool}
-use Rattle.std.proofs.lemmas.List.{get_or_append_left, get_or-append-add, length-append}
+use Rattle.std.proofs.lemmas.List.{get_or_append_left, get_or_push, length-append}
 use Rattle.std.proofs.lemmas.Bool.{cases_eq}
 use Rattle.table.specs.Sums.{sum_n}
 use Rattle.table.specs.Table.{Table}
@@ -15,8 +15,8 @@ use Rattle.components.proofs.Below.{count_most}
 use Rattle.components.proofs.Reach.{reach_all}
 use Rattle.components.proofs.Labels.{first_same, is_low, not_low, heads_low, heads_not, node_low, node_known, component_low}
 use Rattle.decomposition.specs.Bits.{bit_at}
-use Rattle.decomposition.specs.Marking.{flag_at, Shows}
-use Rattle.decomposition.specs.Dropping.{Flagged}
+use Rattle.decomposition.specs.Flags.{flag_at, Flagged}
+use Rattle.decomposition.specs.Marking.{Shows}
 use Rattle.decomposition.specs.Numbered.{Numbered}
 
 pub sum_more : (k : ℕ) (f : ℕ → ℕ) → sum_n (k + 1) f ≡ sum_n k f + f k
@@ -41,23 +41,13 @@ pub one_most : (b : Bool) → from_bool b ≤ 1
 one_most true = omega arith
 one_most false = omega arith
 
-pub none_numbered : (T : Table) → Numbered T 0 [] [] 0
-none_numbered T = record {
-  size = refl;
-  nodes = refl;
-  counted = refl;
-  node_at = λ s h. absurd (let z : s < 0 = h in omega arith);
-  component-at = λ v h. absurd (let z : v < 0 = h in omega arith);
-}
-
 -- a place of a list with one more element
 pushed : {X : Type 0} (xs : List X) (x d : X) (f : ℕ → X) (k : ℕ) → length xs ≡ k → ((i : ℕ) → i < k → get_or xs i d ≡ f i) → x ≡ f k
     → (i : ℕ) → i < k + 1 → get_or (xs ++ (x ∷ [])) i d ≡ f i
 pushed xs x d f k l h e i j =
     ⊎_elim
     (λ (q : i ≡ k).
-    let z : i ≡ length xs + 0 = omega arith in
-    ap (λ (n : ℕ). get_or (xs ++ (x ∷ [])) n d) z ∙ get_or-append-add xs (x ∷ []) 0 d ∙ e ∙ ap f (sym q))
+    get_or_push xs x d i (omega arith) ∙ e ∙ ap f (sym q))
     (λ (q : i ≡ k → ⊥). get_or_append_left xs (x ∷ []) d i (omega arith) ∙ h i (omega arith))
     (cases_eq i k)
 
@@ -92,7 +82,7 @@ module _ (T : Table) (law : Lawful T) where
           counted = omega arith;
           node_at = pushed node (get_or node low 0) 0 (node_of T) k N.size N.node_at
               (N.node_at low h ∙ ap (node_of T) e ∙ node_known T law k hk);
-          component-at = λ v l. N.component-at v (omega arith);
+          component_at = λ v l. N.component_at v (omega arith);
         }
 
     -- the lowest state of a node
@@ -112,7 +102,7 @@ module _ (T : Table) (law : Lawful T) where
           nodes = length-append component (x ∷ []) ∙ omega arith;
           counted = omega arith;
           node_at = pushed node (length component) 0 (node_of T) k N.size N.node_at (m ∙ sym here);
-          component-at = λ v l. pushed component x None (component_at T) (count k (is_lowest T)) m N.component-at value v (omega arith);
+          component_at = λ v l. pushed component x None (component_at T) (count k (is_lowest T)) m N.component_at value v (omega arith);
         }
 
     -- the same, of lists to which these have been pushed

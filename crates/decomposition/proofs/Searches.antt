@@ -2,12 +2,13 @@
 use Rattle.std.proofs.Common.{◌≡◌, ℕ, zero, suc, ◌+◌, ◌*◌, ◌<◌, ◌≤◌, Bool, true, false, ◌&&◌, ◌||◌, List, [], ◌∷◌, ◌++◌, length, get_or, take, unwrap_or, Some, None, Option, MatchOption, sym, refl, ap, ◌∙◌, ap₂, arith}
 use Rattle.std.specs.List.{range_with_len, list_any, list_all, sum_by, AllWithin, HoldsAt}
 use Rattle.std.proofs.lemmas.List.Folds.{list_any-append, list_all_more}
+use Rattle.std.proofs.Math.Bool.{or-false}
 use Rattle.std.proofs.Math.Seq.{take-length}
 use Rattle.std.proofs.lemmas.List.FromFn.{length-range_with_len, get_or-range_with_len}
-use Rattle.std.proofs.lemmas.List.Sums.{sum_by-append}
 use Rattle.table.specs.Sums.{sum_n}
 use Rattle.table.specs.Table.{Table}
 use Rattle.table.specs.Limits.{Lawful}
+use Rattle.table.proofs.Walks.{sum_range}
 use Rattle.components.specs.Below.{any, every, first}
 use Rattle.components.proofs.Labels.{first_is}
 
@@ -18,16 +19,12 @@ counted_more a (suc n) =
     let e : (a + 1) + n ≡ a + suc n = omega arith in
     ap (λ (xs : List ℕ). a ∷ xs) (counted_more (a + 1) n ∙ ap (λ (x : ℕ). range_with_len (a + 1) n ++ (x ∷ [])) e)
 
-or_false : (x : Bool) → (x || false) ≡ x
-or_false true = refl
-or_false false = refl
-
 pub any_counted : (n : ℕ) (p : ℕ → Bool) → list_any p (range_with_len 0 n) ≡ any n p
 any_counted zero p = refl
 any_counted (suc n) p =
     let e : 0 + n ≡ n = omega arith in
     ap (list_any p) (counted_more 0 n) ∙ list_any-append p (range_with_len 0 n) ((0 + n) ∷ [])
-    ∙ ap₂ (λ (x y : Bool). x || y) (any_counted n p) (or_false (p (0 + n)) ∙ ap p e)
+    ∙ ap₂ (λ (x y : Bool). x || y) (any_counted n p) (or-false (p (0 + n)) ∙ ap p e)
 
 -- a test of the first n elements of a list, place by place
 every_below : {X : Type 0} (test : X → Bool) (xs : List X) (d : X) (n : ℕ) → n ≤ length xs → list_all test (take n xs) ≡ every n (λ b. test (get_or xs b d))
@@ -46,14 +43,6 @@ pub every_ext : (n : ℕ) (p q : ℕ → Bool) → ((k : ℕ) → k < n → p k 
 every_ext zero p q e = refl
 every_ext (suc n) p q e = ap₂ (λ (x y : Bool). x && y) (every_ext n p q (λ k l. e k (omega arith))) (e n (omega arith))
 
-pub sum_counted : (n : ℕ) (f : ℕ → ℕ) → sum_by f (range_with_len 0 n) ≡ sum_n n f
-sum_counted zero f = refl
-sum_counted (suc n) f =
-    let e : 0 + n ≡ n = omega arith in
-    let q : 0 + f (0 + n) ≡ f n = omega (arith, ap f e) in
-    ap (sum_by f) (counted_more 0 n) ∙ sum_by-append f (range_with_len 0 n) ((0 + n) ∷ [])
-    ∙ ap₂ (λ (x y : ℕ). x + y) (sum_counted n f) q
-
 -- a table has at most 16 choices to a state
 few_choices : (T : Table) → Lawful T → (n : ℕ) → n ≤ T.states → sum_n n T.choices ≤ 16 * n
 few_choices T law zero h = omega arith
@@ -64,7 +53,7 @@ few_choices T law (suc n) h =
 
 pub few_counted : (T : Table) → Lawful T → (n : ℕ) → n ≡ T.states → sum_by T.choices (range_with_len 0 n) < 18446744073709551616
 few_counted T law n e =
-    let s = sum_counted n T.choices in
+    let s = sum_range T.choices n in
     let l = few_choices T law n (omega arith) in
     let most = law.states.1 in
     omega arith

@@ -1,7 +1,8 @@
 -- The bits of words and of rows.
-use Rattle.std.proofs.Common.{◌≡◌, ℕ, zero, suc, ◌+◌, ◌-◌, ◌*◌, ◌/◌, ◌%◌, ◌^◌, ◌<◌, ◌≤◌, Bool, true, false, ◌&&◌, ◌||◌, eqb, ◌⊎◌, List, [], length, get_or, set, sym, refl, ap, ◌∙◌, ap₂, inl, inr, ⊎_elim, arith}
+use Rattle.std.proofs.Common.{◌≡◌, ℕ, zero, suc, ◌+◌, ◌-◌, ◌*◌, ◌/◌, ◌%◌, ◌^◌, ◌<◌, ◌≤◌, Bool, ◌&&◌, ◌||◌, eqb, ◌⊎◌, List, [], length, get_or, set, sym, refl, ap, ◌∙◌, ap₂, inl, inr, ⊎_elim, arith}
 use native.Mathlib.Nat.{div-eq_of_lt, div_self, mul-mod_left}
 use lib.Bits.{bit_or, or_shr, or_mod}
+use Rattle.std.proofs.Math.Bool.{or-false}
 use Rattle.std.proofs.lemmas.Nat.{pow_pos, pow-add, pow_below, shl-shr, one_shl}
 use Rattle.std.proofs.lemmas.List.{get_or-set_same, get_or-set_other}
 use Rattle.std.proofs.lemmas.Bool.{cases_order, cases_eq, eq-eqb, ne_eqb}
@@ -46,10 +47,6 @@ bit_one j k =
     above : k < j → j ≡ (j - (k + 1)) + 1 + k
     above h = omega arith
 
-or_false : (x : Bool) → (x || false) ≡ x
-or_false true = refl
-or_false false = refl
-
 -- one bit is set in a row, by its word
 pub set-bit : (ws : List ℕ) (col : ℕ) → col < 256 → length ws ≡ 4 → (t : ℕ) → t < 256
     → bit_in (set ws (col / 64) (bit_or (get_or ws (col / 64) 0) ((1 * 2 ^ (col % 64)) % 2 ^ 64))) t ≡ (bit_in ws t || eqb t col)
@@ -64,7 +61,7 @@ set-bit ws col h l t k =
     ∙ ap (λ (x : Bool). bit_in ws t || x) (bit_one (col % 64) (t % 64) ∙ here q))
     (λ (q : place ≡ at → ⊥).
     ap (λ (w : ℕ). bit_of w (t % 64)) (get_or-set_other ws at place both 0 q)
-    ∙ sym (or_false (bit_in ws t))
+    ∙ sym (or-false (bit_in ws t))
     ∙ ap (λ (x : Bool). bit_in ws t || x) (sym (ne_eqb t col (λ f. q (ap (λ (x : ℕ). x / 64) f)))))
     (cases_eq place at)
   where
@@ -94,7 +91,7 @@ row_marked rows row new p l h r t k =
     ∙ h t k ∙ ap (λ (x : Bool). bit_at rows row t || (x && p t)) (sym (eq-eqb row row refl))))
     (λ (e : r ≡ row → ⊥).
     ap (λ (xs : List ℕ). bit_in xs t) (get_or-set_other rows row r new [] e)
-    ∙ sym (or_false (bit_at rows r t)) ∙ ap (λ (x : Bool). bit_at rows r t || (x && p t)) (sym (ne_eqb r row e)))
+    ∙ sym (or-false (bit_at rows r t)) ∙ ap (λ (x : Bool). bit_at rows r t || (x && p t)) (sym (ne_eqb r row e)))
     (cases_eq r row)
 
 -- the words before j have those of another row besides

@@ -6,7 +6,7 @@ use Rattle.components.specs.EndComponent.{Choice}
 use Rattle.components.specs.Inside.{inside}
 use Rattle.components.specs.Nodes.{nodes, node_of, components, component_at}
 use Rattle.components.specs.Law.{ComponentsLaw}
-use Rattle.decomposition.specs.Marking.{flag_at}
+use Rattle.decomposition.specs.Flags.{flag_at}
 use Rattle.decomposition.specs.declared.parts.Parts.{Parts}
 
 -- what the parts say of a choice, of a state and of a node

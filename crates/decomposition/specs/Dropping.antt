@@ -1,17 +1,9 @@
--- What a pass does to a set of choices that is held as flags, 16 to a state.
-use Rattle.std.specs.Prelude.{◌≡◌, ℕ, ◌+◌, ◌*◌, ◌<◌, ◌≤◌, Bool, true, false, ◌&&◌, ◌⊎◌, List, ◌≢◌, slice_index_or}
+-- What a pass does to a set of choices that is held as flags.
+use Rattle.std.specs.Prelude.{◌≡◌, ℕ, ◌+◌, ◌*◌, ◌<◌, ◌≤◌, Bool, false, ◌&&◌, ◌⊎◌, List, ◌≢◌, slice_index_or}
 use Rattle.table.specs.Table.{Table}
-use Rattle.components.specs.EndComponent.{Choices, Choice}
 use Rattle.components.specs.Inside.{pass}
-use Rattle.decomposition.specs.Marking.{flag_at, leads_back}
-
--- the flags show the set
-abbrev pub Flagged : Table → List Bool → Choices → Type 0
-Flagged T flags A = (s c : ℕ) → Choice T s c → flag_at flags s c ≡ A s c
-
--- each choice is in the set
-abbrev pub AllSet : Table → List Bool → Type 0
-AllSet T flags = (s c : ℕ) → Choice T s c → flag_at flags s c ≡ true
+use Rattle.decomposition.specs.Flags.{flag_at, Flagged}
+use Rattle.decomposition.specs.Marking.{leads_back}
 
 -- the choice c of s is dropped unless it leads back; changed says whether it was
 pub record DroppedChoice (T : Table) (rows : List (List ℕ)) (s c : ℕ) (old new : List Bool) (changed : Bool) : Type 0 where

@@ -1,4 +1,5 @@
 pub mod Bits
+pub mod Flags
 pub mod Marking
 pub mod Dropping
 pub mod Numbered

@@ -1,14 +1,10 @@
--- Sets of choices as flags, 16 to a state, and reachability as bits.
-use Rattle.std.specs.Prelude.{◌≡◌, ℕ, zero, suc, ◌+◌, ◌*◌, ◌<◌, Bool, false, ◌&&◌, ◌||◌, List, ◌==◌, nat_eq, slice_index_or}
+-- Reachability as bits.
+use Rattle.std.specs.Prelude.{◌≡◌, ℕ, zero, suc, ◌<◌, Bool, ◌&&◌, ◌||◌, List, ◌==◌, nat_eq}
 use Rattle.table.specs.Table.{Table, successor}
 use Rattle.components.specs.Below.{every, any}
 use Rattle.components.specs.EndComponent.{Choices}
 use Rattle.components.specs.Inside.{leads}
 use Rattle.decomposition.specs.Bits.{bit_at}
-
--- the choice c of the state s is in the set
-abbrev pub flag_at : List Bool → Choices
-flag_at flags s c = slice_index_or flags (16 * s + c) false
 
 -- the choice c of the state s has a branch to t
 abbrev pub branch_to : Table → ℕ → ℕ → ℕ → Bool

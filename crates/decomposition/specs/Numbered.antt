@@ -10,4 +10,4 @@ pub record Numbered (T : Table) (k : ℕ) (node : List ℕ) (component : List (O
   pub nodes : length component ≡ count k (is_lowest T)
   pub counted : components ≡ count k (heads T)
   pub node_at : (s : ℕ) → s < k → slice_index node s ≡ node_of T s
-  pub component-at : (v : ℕ) → v < count k (is_lowest T) → slice_index_or component v None ≡ component_at T v
+  pub component_at : (v : ℕ) → v < count k (is_lowest T) → slice_index_or component v None ≡ component_at T v

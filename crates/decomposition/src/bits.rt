@@ -5,10 +5,10 @@ use std::alloc::{AllocError, Global};
 
 const ALL_ROWS: usize = 256;
 
-// A row of 256 bits, in four words of 64.
+// A row of 256 bits, in four words of 64: a row is added to another word by word.
 pub(crate) type Row = [u64; 4];
 
-// Whether a bit of a row is set.
+// Whether a bit of a row is set. A column below 256, and no `u8`: columns and rows are the states of a table, which are `u32`.
 pub(crate) fn bit_in(row: &Row, column: u32) -> bool
     requires { column < 256 }
     ensures { result ≡ bit_in row.now column }

@@ -1,5 +1,5 @@
 ghost use Rattle.std.specs.Prelude.{◌≡◌, ◌+◌, ◌*◌, ◌<◌, true, false, length, take, replicate, IfOk, slice_set};
-ghost use Rattle.decomposition.specs.Marking.{flag_at};
+ghost use Rattle.decomposition.specs.Flags.{flag_at};
 
 use std::alloc::{AllocError, Global};
 
@@ -16,8 +16,8 @@ pub(crate) fn place(state: u32, choice: u32) -> usize
     MOST_CHOICES as usize * state as usize + choice as usize
 }
 
-// A set of choices, by a flag for each: 16 to a state, of 256 states. They lie flat: the first of them go on as they are, into
-// the parts and from there into an engine's layout.
+// A set of choices, by a flag for each: 16 to a state, of 256 states. They lie flat, and the first of them go on as they are into the parts and
+// an engine's layout: flat data is a rule of this project.
 #[derive(Drop)]
 pub(crate) struct Kept {
     pub(crate) flags: Vec<bool>,

@@ -3,7 +3,7 @@ ghost use Rattle.table.specs.Sums.{sum_n};
 ghost use Rattle.components.specs.Below.{any, first};
 ghost use Rattle.model.specs.Held.{table_of};
 ghost use Rattle.decomposition.specs.Bits.{bit_at};
-ghost use Rattle.decomposition.specs.Marking.{flag_at};
+ghost use Rattle.decomposition.specs.Flags.{flag_at};
 ghost use Rattle.decomposition.specs.Numbered.{Numbered};
 
 use crate::bits::Square;
@@ -42,7 +42,7 @@ fn has_choice(model: &Model, kept: &Kept, state: u32) -> bool
 }
 
 // What has been numbered: of each state so far its node, of each node the component that it is, if it is one,
-// and how many components there are.
+// and how many components there are. Two lists: there are other numbers of states and of nodes.
 #[derive(Drop)]
 pub(crate) struct Numbering {
     pub(crate) node: Vec<u32>,

@@ -1,7 +1,8 @@
 ghost use Rattle.std.specs.Prelude.{◌≤◌, vec_len};
 
 // What a table is taken apart into: whether each choice is inside, 16 to a state; the node of each state;
-// the component that each node is, if it is one; and how many components there are.
+// the component that each node is, if it is one; and how many components there are. A list for each: there are other numbers of choices,
+// of states and of nodes.
 #[derive(Drop)]
 pub struct Parts {
     pub inside: Vec<bool>,

@@ -2,8 +2,9 @@ ghost use Rattle.std.specs.Prelude.{◌≡◌, ◌<◌, false};
 ghost use Rattle.components.specs.EndComponent.{Choice};
 ghost use Rattle.components.specs.Inside.{inside, reach};
 ghost use Rattle.model.specs.Held.{table_of};
-ghost use Rattle.decomposition.specs.Marking.{flag_at, leads_back, Shows};
-ghost use Rattle.decomposition.specs.Dropping.{DroppedChoice, DroppedState, DroppedAll, Passed, AllSet, Flagged};
+ghost use Rattle.decomposition.specs.Flags.{flag_at, Flagged, AllSet};
+ghost use Rattle.decomposition.specs.Marking.{leads_back, Shows};
+ghost use Rattle.decomposition.specs.Dropping.{DroppedChoice, DroppedState, DroppedAll, Passed};
 
 use crate::bits::Square;
 use crate::kept::Kept;
@@ -61,8 +62,9 @@ fn drop_choices(model: &Model, square: &Square, kept: &mut Kept) -> bool
     changed
 }
 
-// The marks and the kept choices stay two values here, since one is written while the other is read: of one value,
+// Model, marks and kept choices stay three values here, of which one is written while the others are read: of one value,
 // each contract would also have to say what it leaves as it was.
+
 // One pass: keeps the choices from whose every successor their state is reached, and says whether any was dropped;
 // if none was, the marks are still those of the kept choices.
 fn pass(model: &Model, kept: &mut Kept, square: &mut Square) -> bool

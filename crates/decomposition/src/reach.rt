@@ -3,7 +3,8 @@ ghost use Rattle.components.specs.EndComponent.{Choice};
 ghost use Rattle.components.specs.Inside.{reach};
 ghost use Rattle.model.specs.Held.{table_of};
 ghost use Rattle.decomposition.specs.Bits.{bit_at, Marks};
-ghost use Rattle.decomposition.specs.Marking.{flag_at, branch_to, one_step, Shows, through, closure};
+ghost use Rattle.decomposition.specs.Flags.{flag_at};
+ghost use Rattle.decomposition.specs.Marking.{branch_to, one_step, Shows, through, closure};
 
 use crate::bits::{Row, Square, add_row, bit_in};
 use crate::kept::Kept;
@@ -43,7 +44,8 @@ fn mark_steps(model: &Model, kept: &Kept, square: &mut Square)
     }
 }
 
-// Adds the ways through one state: to each row that reaches it, its row. It takes the rows as a slice: in a method, over
+// Adds the ways through one state: to each row that reaches it, its row. That there are at most 256 states is asked where a square comes without
+// its model, whose type says it. It takes the rows as a slice: in a method, over
 // `self.rows[..states]`, which was tried, nothing is known of the rows after the loop.
 fn close_through(rows: &mut [Row], states: u32, middle: u32)
     requires few { states ≤ 256 }

@@ -1,8 +1,8 @@
 ghost use Rattle.std.specs.Prelude.{◌≡◌, IfOk};
 ghost use Rattle.components.specs.Inside.{inside, reach};
 ghost use Rattle.model.specs.Held.{table_of};
+ghost use Rattle.decomposition.specs.Flags.{Flagged};
 ghost use Rattle.decomposition.specs.Marking.{Shows};
-ghost use Rattle.decomposition.specs.Dropping.{Flagged};
 
 use crate::bits::Square;
 use crate::kept::Kept;

@@ -22,7 +22,7 @@ use Rattle.model.specs.declared.fault.LoadFault.{LoadFault}
 use Rattle.model.specs.declared.fault.LoadFault.TheVariants.{Limit, Memory}
 use Rattle.book.specs.Desks.{desk_table, desk_book, AtStart, steps_made, bounds_at, plan_in}
 use Rattle.book.specs.declared.desk.Desk.{Desk}
-use Rattle.history.specs.Calls.{State, idle, loaded, standing, refines, sweeping, close, quote, plan, counts, fresh, opened, after_call, next}
+use Rattle.history.specs.Calls.{State, idle, loaded, standing, refines, sweeping, close, quote, plan, count_within, fresh, opened, after_call, next}
 use Rattle.history.specs.Answers.{refused, done, stands, refined, swept, quoted, planned, refine_answer, quote_answer, plan_answer, answer_loaded, answer}
 use Rattle.history.specs.Refusals.{refusal_of}
 use Rattle.history.specs.declared.refusal.Refusal.{Refusal}
@@ -34,39 +34,39 @@ use Rattle.engine.specs.Opens.{Opens, Loads}
 
 module _ (T : Table) (B : Book) where
   -- a refine of an existing component
-  pub refine-answer : (A : Book) (k n width made : ℕ) (lo hi : ℤ) → k < components T → counts n ≡ true
+  pub refine-answer : (A : Book) (k n width made : ℕ) (lo hi : ℤ) → k < components T → count_within n ≡ true
       → made ≡ steps_made T B k n width → A ≡ changed (setting_of T) (change.refines k n width) B → lo ≡ at_z A.lo k → hi ≡ at_z A.hi k
       → refined made lo hi ≡ answer (loaded T B) (refines k n width)
   unfolding answer answer_loaded refine_answer steps_made changed
   refine-answer A k n width made lo hi h e m a l u =
       let r = refine (setting_of T) k n width B in
       let t : ltb k (components T) ≡ true = lt-ltb k (components T) h in
-      let inner = cond (counts n) (refine_answer T B k n width) (refused refusal.Count) in
+      let inner = cond (count_within n) (refine_answer T B k n width) (refused refusal.Count) in
       let a' : A ≡ r.book = a ∙ cond-true (ltb k (components T)) r.book B t in
       let one : refined made lo hi ≡ refined r.made lo hi = ap (λ (x : ℕ). refined x lo hi) (m ∙ cond-true (ltb k (components T)) r.made 0 t) in
       let two : refined r.made lo hi ≡ refined r.made (at_z r.book.lo k) hi = ap (λ (x : ℤ). refined r.made x hi) (l ∙ ap (λ (D : Book). at_z D.lo k) a') in
       let three : refined r.made (at_z r.book.lo k) hi ≡ refine_answer T B k n width = ap (λ (x : ℤ). refined r.made (at_z r.book.lo k) x) (u ∙ ap (λ (D : Book). at_z D.hi k) a') in
-      one ∙ two ∙ three ∙ sym (cond-true (counts n) (refine_answer T B k n width) (refused refusal.Count) e)
+      one ∙ two ∙ three ∙ sym (cond-true (count_within n) (refine_answer T B k n width) (refused refusal.Count) e)
       ∙ sym (cond-true (ltb k (components T)) inner (refused refusal.Component) t)
 
-  pub refine_next : (T' : Table) (A : Book) (k n width : ℕ) → k < components T → counts n ≡ true → T' ≡ T
+  pub refine_next : (T' : Table) (A : Book) (k n width : ℕ) → k < components T → count_within n ≡ true → T' ≡ T
       → A ≡ changed (setting_of T) (change.refines k n width) B → loaded T' A ≡ next (loaded T B) (refines k n width)
   unfolding next after_call changed
   refine_next T' A k n width h e s a =
       let r = refine (setting_of T) k n width B in
       let t : ltb k (components T) ≡ true = lt-ltb k (components T) h in
       ap₂ loaded s (a ∙ cond-true (ltb k (components T)) r.book B t)
-      ∙ sym (cond-true (ltb k (components T) && counts n) (loaded T r.book) (loaded T B) (and_from (ltb k (components T)) (counts n) t e))
+      ∙ sym (cond-true (ltb k (components T) && count_within n) (loaded T r.book) (loaded T B) (and_from (ltb k (components T)) (count_within n) t e))
 
   -- sweeps
-  pub sweep_answer : (n made : ℕ) → counts n ≡ true → made ≡ (sweeps (setting_of T) n B).made → swept made ≡ answer (loaded T B) (sweeping n)
+  pub sweep_answer : (n made : ℕ) → count_within n ≡ true → made ≡ (sweeps (setting_of T) n B).made → swept made ≡ answer (loaded T B) (sweeping n)
   unfolding answer answer_loaded
-  sweep_answer n made e m = ap swept m ∙ sym (cond-true (counts n) (swept (sweeps (setting_of T) n B).made) (refused refusal.Count) e)
+  sweep_answer n made e m = ap swept m ∙ sym (cond-true (count_within n) (swept (sweeps (setting_of T) n B).made) (refused refusal.Count) e)
 
-  pub sweep_next : (T' : Table) (A : Book) (n : ℕ) → counts n ≡ true → T' ≡ T → A ≡ changed (setting_of T) (change.sweeping n) B
+  pub sweep_next : (T' : Table) (A : Book) (n : ℕ) → count_within n ≡ true → T' ≡ T → A ≡ changed (setting_of T) (change.sweeping n) B
       → loaded T' A ≡ next (loaded T B) (sweeping n)
   unfolding next after_call changed
-  sweep_next T' A n e s a = ap₂ loaded s a ∙ sym (cond-true (counts n) (loaded T (sweeps (setting_of T) n B).book) (loaded T B) e)
+  sweep_next T' A n e s a = ap₂ loaded s a ∙ sym (cond-true (count_within n) (loaded T (sweeps (setting_of T) n B).book) (loaded T B) e)
 
   -- a close
   pub close_answer : done ≡ answer (loaded T B) close

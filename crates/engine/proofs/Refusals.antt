@@ -4,9 +4,9 @@ use Rattle.table.specs.Table.{Table}
 use Rattle.components.specs.Nodes.{components}
 use Rattle.rules.specs.Book.{Book}
 use Rattle.book.specs.declared.desk.Desk.{Desk}
-use Rattle.history.specs.Calls.{State, idle, loaded, Call, standing, refines, sweeping, quote, plan, counts, next}
+use Rattle.history.specs.Calls.{State, idle, loaded, Call, standing, refines, sweeping, quote, plan, count_within, next}
 use Rattle.history.specs.Answers.{refused, stands, answer_loaded, answer_idle, answer}
-use Rattle.history.specs.Refusing.{Needy, Reason, needed, no_component, bad_steps, bad_sweeps, no_state, no_room}
+use Rattle.history.specs.Refusing.{NeedsTable, Reason, needed, no_component, bad_steps, bad_sweeps, no_state, no_room}
 use Rattle.history.specs.declared.refusal.Refusal.{Refusal}
 use Rattle.history.specs.declared.refusal.Refusal.TheVariants as refusal
 use Rattle.history.proofs.Refusing.{refusal_law, miscounted}
@@ -28,7 +28,7 @@ unfolding answer answer_idle
 idle_standing S e h = ap (λ (R : State). answer R standing) (sym h)
 
 -- idle: what needs a table
-pub idle_refuses : (S : State) (e : Refusal) → refused e ≡ answer S standing → (c : Call) → Needy c → Refuses S c refusal.Idle
+pub idle_refuses : (S : State) (e : Refusal) → refused e ≡ answer S standing → (c : Call) → NeedsTable c → Refuses S c refusal.Idle
 unfolding answer answer_loaded
 idle_refuses (idle d) e h c n = refuses (idle d) c refusal.Idle (needed n)
 idle_refuses (loaded T B) e h c n = let z : ◌≡◌ {A = ℕ} 0 1 = cc in absurd (omega arith)
@@ -46,7 +46,7 @@ module _ (n k : ℕ) where
       let p : components T ≤ i = omega (arith, e, l) in
       refuses (loaded T B) (refines i m width) refusal.Component (no_component p)
 
-  pub steps_refuses : (S : State) → stands n k ≡ answer S standing → (i m width : ℕ) → i < k → counts m ≡ false → Refuses S (refines i m width) refusal.Count
+  pub steps_refuses : (S : State) → stands n k ≡ answer S standing → (i m width : ℕ) → i < k → count_within m ≡ false → Refuses S (refines i m width) refusal.Count
   unfolding answer answer_loaded answer_idle
   steps_refuses (idle d) h i m width l e = idle_stands d h
   steps_refuses (loaded T B) h i m width l e =
@@ -54,7 +54,7 @@ module _ (n k : ℕ) where
       let p : i < components T = omega (arith, f, l) in
       refuses (loaded T B) (refines i m width) refusal.Count (bad_steps p (miscounted m e))
 
-  pub sweeps_refuses : (S : State) → stands n k ≡ answer S standing → (m : ℕ) → counts m ≡ false → Refuses S (sweeping m) refusal.Count
+  pub sweeps_refuses : (S : State) → stands n k ≡ answer S standing → (m : ℕ) → count_within m ≡ false → Refuses S (sweeping m) refusal.Count
   unfolding answer answer_loaded answer_idle
   sweeps_refuses (idle d) h m e = idle_stands d h
   sweeps_refuses (loaded T B) h m e = refuses (loaded T B) (sweeping m) refusal.Count (bad_sweeps (miscounted m e))

@@ -4,7 +4,7 @@ use Rattle.table.specs.Table.{Table}
 use Rattle.history.specs.Calls.{State, idle, loaded, Call, standing, quote, opened, next, after_idle, after_call, run}
 use Rattle.history.specs.Answers.{Answer, answer, answers}
 use Rattle.engine.specs.Opens.{Opens}
-use Rattle.engine.specs.Replays.{call_of, Makes, Stand, Replayed}
+use Rattle.engine.specs.Replays.{call_of, Makes, StandsFor, Replayed}
 use Rattle.engine.specs.declared.call.Call.{Call as CodeCall}
 
 -- calls that only answer
@@ -34,7 +34,7 @@ unfolding run answers
 none_yet T S o = record { memory = o.memory; holds = o.holds; each = refl; law = o.law }
 
 pub stand_more : {X : Type 0} (table : X → Table) (xs : List (CodeCall X)) (ds : List Call) (x : CodeCall X) (d : Call)
-    → Stand table xs ds → (memory : Bool) → d ≡ call_of table x memory → Stand table (xs ++ (x ∷ [])) (ds ++ (d ∷ []))
+    → StandsFor table xs ds → (memory : Bool) → d ≡ call_of table x memory → StandsFor table (xs ++ (x ∷ [])) (ds ++ (d ∷ []))
 stand_more table [] [] x d h memory e = ((memory, e), tt)
 stand_more table (y ∷ ys) (d' ∷ ds) x d h memory e = (h.0, stand_more table ys ds x d h.1 memory e)
 stand_more table [] (d' ∷ ds) x d h memory e = absurd h

@@ -36,11 +36,11 @@ pub record Makes (c : history.Call) (R S : history.State) (a : answered.Answer) 
   pub holds : S ≡ history.next R c
 
 -- the calls are those of the list, each load with memory for it or without
-abbrev pub Stand : {S : Type 0} → (S → Table) → List (Call S) → List history.Call → Type 0
-Stand table [] [] = Unit {0}
-Stand table [] (d ∷ ds) = ⊥
-Stand table (c ∷ cs) [] = ⊥
-Stand table (c ∷ cs) (d ∷ ds) = ((memory : Bool) × (d ≡ call_of table c memory)) × Stand table cs ds
+abbrev pub StandsFor : {S : Type 0} → (S → Table) → List (Call S) → List history.Call → Type 0
+StandsFor table [] [] = Unit {0}
+StandsFor table [] (d ∷ ds) = ⊥
+StandsFor table (c ∷ cs) [] = ⊥
+StandsFor table (c ∷ cs) (d ∷ ds) = ((memory : Bool) × (d ≡ call_of table c memory)) × StandsFor table cs ds
 
 -- An open of the table T and then the calls leave the state S, with these answers.
 -- The law holds after the open and after every list of calls, so after each beginning of this one: in every state that the engine went through.

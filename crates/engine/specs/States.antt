@@ -33,7 +33,7 @@ abbrev pub swept_answer : Result ℕ Refusal → Answer
 swept_answer (Ok n) = swept n
 swept_answer (Err e) = refused e
 
--- the mark is a truth: 1 for it, else 0
+-- a mark that is true counts as 1, else as 0
 abbrev pub quoted_answer : Result (ℤ × ℤ × Bool) Refusal → Answer
 quoted_answer (Ok x) = quoted x.0 x.1 (cond x.2 1 0)
 quoted_answer (Err e) = refused e

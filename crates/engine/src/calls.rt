@@ -1,5 +1,5 @@
 ghost use Rattle.std.specs.Prelude.{◌≡◌, pos, ◌-ℤ◌, int_le, MatchResult, IsErr};
-ghost use Rattle.history.specs.Calls.{next, counts as counts_test};
+ghost use Rattle.history.specs.Calls.{next, count_within};
 ghost use Rattle.history.specs.Calls.Call.{load as load_call, standing as standing_call, refines, sweeping, close as close_call, quote as quote_call, plan as plan_call};
 ghost use Rattle.history.specs.Answers.{answer};
 ghost use Rattle.history.specs.Refusing.{RefusalLaw};
@@ -18,7 +18,7 @@ use table::Source;
 
 // 1 to 1,000
 fn counts(count: u64) -> bool
-    ensures { result ≡ counts_test count }
+    ensures { result ≡ count_within count }
 {
     (1..=1000).contains(&count)
 }
@@ -73,7 +73,8 @@ impl Engine {
     }
 
     // A rule of this project: a refine, and each call below, takes the pair of numbers that standing answers by `let .. else`.
-    // Where that is a refusal, the call is refused as idle, whatever the open was refused with.
+    // Where that is a refusal, the call is refused as idle, whatever the open was refused with; a desk is then there, and its own way out
+    // (`?` on `desk`, and the second `let .. else` of a quote, which only reads) is never taken.
     // Their clauses are alike, what a call answers and what the engine holds then, but each names its own call.
 
     // Steps made in the component, its lo and its hi then.
@@ -145,7 +146,7 @@ impl Engine {
         Ok((lower, upper, mark(lower, upper, width)))
     }
 
-    // Writes the choice of each state to the front of the list and leaves the rest.
+    // Writes the choice of each state to the front of the list and leaves the rest. The list is the caller's: nothing is allocated.
     pub fn plan(&mut self, list: &mut [u32]) -> Result<(), Refusal>
         ensures answer { planned_answer result list.new ≡ answer (state_of self.old) (plan_call list.old) }
         ensures list { list.new ≡ list_after (answer (state_of self.old) (plan_call list.old)) list.old }

@@ -1,7 +1,7 @@
 ghost use Rattle.std.specs.Prelude.{◌≡◌, Bool, List, map, replicate, IfOk};
 ghost use Rattle.history.specs.Calls as history;
 ghost use Rattle.engine.specs.States.{state_of};
-ghost use Rattle.engine.specs.Replays.{answer_of, call_of, Stand, Makes, Replayed};
+ghost use Rattle.engine.specs.Replays.{answer_of, call_of, StandsFor, Makes, Replayed};
 
 use crate::call::{Answer, Call};
 use crate::engine::Engine;
@@ -33,6 +33,7 @@ fn make<S: Source + Drop>(
     match call {
         Call::Load(source) => Ok(engine.load(heap, source).map(|()| Answer::Done)),
         Call::Standing => {
+            // programs that make this call themselves have the same line: a public function for it would be longer
             let stands = engine.standing();
             Ok(stands.map(|(states, components)| Answer::Stands { states, components }))
         }
@@ -60,11 +61,11 @@ pub fn replay<S: Source + Drop>(
     source: &S,
     calls: &[Call<S>],
 ) -> Result<(Engine, Vec<Result<Answer, Refusal>>), AllocError>
-    ensures { IfOk result (λ x. (made : List history.Call) × Stand S.table calls.now made × Replayed (S.table source.now) made (state_of x.0) (map answer_of x.1.items)) }
+    ensures { IfOk result (λ x. (made : List history.Call) × StandsFor S.table calls.now made × Replayed (S.table source.now) made (state_of x.0) (map answer_of x.1.items)) }
 {
     let mut engine = Engine::open(heap, source);
     let mut answers = Vec::new(heap);
-    // a loop: no clause says what an iterator leaves of an engine that its closure changes
+    // a loop: over `.map(..).try_collect(heap)`, which was tried, nothing is known of the engine that the closure changes
     for call in calls {
         answers.push(make(heap, &mut engine, call)?)?;
     }

@@ -13,19 +13,19 @@ use Rattle.horizon.specs.Strategies.{Plan, follow, scaled_reward}
 use Rattle.horizon.specs.Ring.{le_trans, le_same}
 use Rattle.horizon.specs.SumsLemmas.{weighted_z_cong}
 use Rattle.components.specs.Nodes.{components}
-use Rattle.rules.specs.Setting.{Setting, setting_of}
+use Rattle.rules.specs.Setting.{Setting, scale_in_use, setting_of}
 use Rattle.rules.specs.Book.{Book}
 use Rattle.rules.specs.Refine.{refine}
 use Rattle.rules.specs.Choosing.{tabulate}
 use Rattle.rules.specs.Sweep.{sweeps}
 use Rattle.rules.specs.Play.{play}
-use Rattle.rules.specs.Promises.{upper_at, lower_at}
+use Rattle.rules.specs.Promises.{upper_at, lower_at, excess}
 use Rattle.rules.specs.Sound.{Sound}
 use Rattle.rules.proofs.Promises.{every_sound}
 use Rattle.rules.specs.Promises as rules
-use Rattle.history.specs.Calls.{State, idle, loaded, Call, load, standing, refines, sweeping, close, quote, plan, counts, fresh, opened, after_load, after_call, after_idle, next, run}
+use Rattle.history.specs.Calls.{State, idle, loaded, Call, load, standing, refines, sweeping, close, quote, plan, count_within, fresh, opened, after_load, after_call, after_idle, next, run}
 use Rattle.history.specs.Answers.{refused, done, quoted, planned, load_answer, quote_answer, plan_answer, answer_loaded, answer}
-use Rattle.history.specs.Histories.{scale, excess, Holds, UpperPromise, LowerPromise, Tighter, Quiet, EveryHistory}
+use Rattle.history.specs.Histories.{Holds, UpperPromise, LowerPromise, Tighter, Quiet, EveryHistory}
 use Rattle.history.specs.declared.refusal.Refusal.{Refusal}
 use Rattle.history.specs.declared.refusal.Refusal.TheVariants as refusal
 use Rattle.history.proofs.Refusing.{found_or_none, answer_kept, after_broken, after_kept}
@@ -141,15 +141,15 @@ unfolding Good after_call
 good_call T B (load T' memory) g = good_load T' memory (loaded T B) g
 good_call T B standing g = g
 good_call T B (refines k n width) g =
-    elim (cases_Bool (ltb k (components T) && counts n)) [
+    elim (cases_Bool (ltb k (components T) && count_within n)) [
       | inl a ↦ (
-          let l = ltb-true k (components T) (and_parts (ltb k (components T)) (counts n) a).0 in
-          subst Good (sym (cond-true (ltb k (components T) && counts n) (loaded T (refine (setting_of T) k n width B).book) (loaded T B) a))
+          let l = ltb-true k (components T) (and_parts (ltb k (components T)) (count_within n) a).0 in
+          subst Good (sym (cond-true (ltb k (components T) && count_within n) (loaded T (refine (setting_of T) k n width B).book) (loaded T B) a))
           (g.0, (every_sound (setting_of T) g.0).refined k n width l B g.1))
-      | inr a ↦ subst Good (sym (cond-false (ltb k (components T) && counts n) (loaded T (refine (setting_of T) k n width B).book) (loaded T B) a)) g
+      | inr a ↦ subst Good (sym (cond-false (ltb k (components T) && count_within n) (loaded T (refine (setting_of T) k n width B).book) (loaded T B) a)) g
     ]
 good_call T B (sweeping n) g =
-    good_either (counts n) (loaded T (sweeps (setting_of T) n B).book) (loaded T B) (g.0, (every_sound (setting_of T) g.0).swept n B g.1) g
+    good_either (count_within n) (loaded T (sweeps (setting_of T) n B).book) (loaded T B) (g.0, (every_sound (setting_of T) g.0).swept n B g.1) g
 good_call T B close g = (g.0, (every_sound (setting_of T) g.0).starts)
 good_call T B (quote s width) g = g
 good_call T B (plan list) g = g
@@ -185,7 +185,7 @@ upper_loaded : (T : Table) (B : Book) → Good (loaded T B) → UpperPromise (lo
 unfolding Good
 upper_loaded T B g σ names N s width h L U mark e =
     let q = (quote_is T B s width L U mark h e).1 in
-    subst (λ (z : ℤ). (pos scale *ℤ scaled_reward T σ N s []) ≤ℤ (pos (T.denominator ^ N) *ℤ ((pos N *ℤ z) +ℤ pos (excess T)))) q
+    subst (λ (z : ℤ). (pos scale_in_use *ℤ scaled_reward T σ N s []) ≤ℤ (pos (T.denominator ^ N) *ℤ ((pos N *ℤ z) +ℤ pos (excess (setting_of T))))) q
     ((every_sound (setting_of T) g.0).upper B g.1 σ names N s [] (h, tt))
 
 upper_good : (S : State) (T : Table) → Good S → Holds S T → UpperPromise S T
@@ -203,9 +203,9 @@ lower_loaded T B g list written a =
     record {
       names = λ s h. subst (λ (c : ℕ). c < T.choices s) (agree s h) (low.names s h);
       earns = λ N s width h L U mark e.
-          subst (λ (z : ℤ). (pos (T.denominator ^ N) *ℤ ((pos N *ℤ z) -ℤ pos (excess T))) ≤ℤ (pos scale *ℤ scaled_reward T (follow plays) N s []))
+          subst (λ (z : ℤ). (pos (T.denominator ^ N) *ℤ ((pos N *ℤ z) -ℤ pos (excess (setting_of T)))) ≤ℤ (pos scale_in_use *ℤ scaled_reward T (follow plays) N s []))
           (quote_is T B s width L U mark h e).0
-          (subst (λ (v : ℤ). (pos (T.denominator ^ N) *ℤ ((pos N *ℤ lower_at (setting_of T) B s) -ℤ pos (excess T))) ≤ℤ (pos scale *ℤ v))
+          (subst (λ (v : ℤ). (pos (T.denominator ^ N) *ℤ ((pos N *ℤ lower_at (setting_of T) B s) -ℤ pos (excess (setting_of T)))) ≤ℤ (pos scale_in_use *ℤ v))
           (plan_cong T g.0 (play T B) plays agree low.names N s [] h)
           (low.earns N s [] h));
     }
@@ -246,11 +246,11 @@ unfolding Good answer_loaded after_call
 quiet_call T B g (load T' memory) n = quiet_load T B g T' memory n
 quiet_call T B g standing n = stays T B g
 quiet_call T B g (refines k m width) n =
-    let both = ltb k (components T) && counts m in
+    let both = ltb k (components T) && count_within m in
     let made = (refine (setting_of T) k m width B).book in
     elim (cases_Bool both) [
       | inl a ↦ (
-          let l = ltb-true k (components T) (and_parts (ltb k (components T)) (counts m) a).0 in
+          let l = ltb-true k (components T) (and_parts (ltb k (components T)) (count_within m) a).0 in
           let r = every_sound (setting_of T) g.0 in
           subst (Onward T B) (sym (cond-true both (loaded T made) (loaded T B) a))
           (record { book = made; held = refl; good = (g.0, r.refined k m width l B g.1); tighter = r.refining k m width l B g.1 }))
@@ -258,12 +258,12 @@ quiet_call T B g (refines k m width) n =
     ]
 quiet_call T B g (sweeping m) n =
     let made = (sweeps (setting_of T) m B).book in
-    elim (cases_Bool (counts m)) [
+    elim (cases_Bool (count_within m)) [
       | inl a ↦ (
           let r = every_sound (setting_of T) g.0 in
-          subst (Onward T B) (sym (cond-true (counts m) (loaded T made) (loaded T B) a))
+          subst (Onward T B) (sym (cond-true (count_within m) (loaded T made) (loaded T B) a))
           (record { book = made; held = refl; good = (g.0, r.swept m B g.1); tighter = r.sweeping m B g.1 }))
-      | inr a ↦ subst (Onward T B) (sym (cond-false (counts m) (loaded T made) (loaded T B) a)) (stays T B g)
+      | inr a ↦ subst (Onward T B) (sym (cond-false (count_within m) (loaded T made) (loaded T B) a)) (stays T B g)
     ]
 quiet_call T B g close n = absurd (n refl)
 quiet_call T B g (quote s width) n = stays T B g

@@ -9,9 +9,9 @@ use Rattle.rules.specs.Book.{Book}
 use Rattle.rules.specs.Setting.{setting_of}
 use Rattle.rules.specs.Refine.{refine}
 use Rattle.rules.specs.Sweep.{sweeps}
-use Rattle.history.specs.Calls.{State, idle, loaded, Call, load, standing, refines, sweeping, close, quote, plan, counts, fresh, opened, after_load, after_call, after_idle, next, run}
+use Rattle.history.specs.Calls.{State, idle, loaded, Call, load, standing, refines, sweeping, close, quote, plan, count_within, fresh, opened, after_load, after_call, after_idle, next, run}
 use Rattle.history.specs.Answers.{refused, done, stands, swept, load_answer, refine_answer, quote_answer, plan_answer, answer_loaded, answer_idle, answer, answers}
-use Rattle.history.specs.Refusing.{Needy, Miscounted, Reason, broken, starved, unopened, needed, no_component, bad_steps, bad_sweeps, no_state, no_room, AsOpened, RefusalLaw}
+use Rattle.history.specs.Refusing.{NeedsTable, Miscounted, Reason, broken, no_memory, unopened, needed, no_component, bad_steps, bad_sweeps, no_state, no_room, AsOpened, RefusalLaw}
 use Rattle.history.specs.declared.refusal.Refusal.{Refusal}
 use Rattle.history.specs.declared.refusal.Refusal.TheVariants as refusal
 
@@ -31,12 +31,12 @@ moved : {S : State} {c : Call} (d e : Refusal) → Reason S c d → refused d �
 moved {S} {c} d e r h = subst (Reason S c) (same d e h) r
 
 -- a count that is tested
-pub miscounted : (n : ℕ) → counts n ≡ false → Miscounted n
+pub miscounted : (n : ℕ) → count_within n ≡ false → Miscounted n
 miscounted n h =
     elim (and_cases (leb 1 n) (leb n 1000) h) [ inl e ↦ inl (leb-false 1 n e) | inr e ↦ inr (leb-false n 1000 e) ]
 
-pub not_counts : (n : ℕ) → Miscounted n → counts n ≡ false
-not_counts n h =
+pub not_within : (n : ℕ) → Miscounted n → count_within n ≡ false
+not_within n h =
     elim h [
       | inl l ↦ and_left (leb 1 n) (leb n 1000) (lt-leb 1 n l)
       | inr l ↦ and_right (leb 1 n) (leb n 1000) (lt-leb n 1000 l)
@@ -69,7 +69,7 @@ load_reason S T true e h =
     ]
 load_reason S T false e h =
     elim (found_or_none (fault_of T)) [
-      | inl k ↦ moved refusal.Memory e (starved k) (sym (answer_kept T false k) ∙ h)
+      | inl k ↦ moved refusal.Memory e (no_memory k) (sym (answer_kept T false k) ∙ h)
       | inr w ↦ moved (refusal.Table w.0) e (broken w.1) (sym (answer_broken T false w.0 w.1) ∙ h)
     ]
 
@@ -108,23 +108,23 @@ module _ (T : Table) (B : Book) where
   loaded_reason (load T' memory) e h = load_reason (loaded T B) T' memory e h
   loaded_reason standing e h = stands_accepted T.states (components T) e h
   loaded_reason (refines k n width) e h =
-      let inner = cond (counts n) (refine_answer T B k n width) (refused refusal.Count) in
+      let inner = cond (count_within n) (refine_answer T B k n width) (refused refusal.Count) in
       elim (cases_Bool (ltb k (components T))) [
         | inl a ↦ (
             let h1 : inner ≡ refused e = sym (cond-true (ltb k (components T)) inner (refused refusal.Component) a) ∙ h in
-            elim (cases_Bool (counts n)) [
-              | inl b ↦ refine_accepted k n width e (sym (cond-true (counts n) (refine_answer T B k n width) (refused refusal.Count) b) ∙ h1)
+            elim (cases_Bool (count_within n)) [
+              | inl b ↦ refine_accepted k n width e (sym (cond-true (count_within n) (refine_answer T B k n width) (refused refusal.Count) b) ∙ h1)
               | inr b ↦ moved refusal.Count e (bad_steps (ltb-true k (components T) a) (miscounted n b))
-                  (sym (cond-false (counts n) (refine_answer T B k n width) (refused refusal.Count) b) ∙ h1)
+                  (sym (cond-false (count_within n) (refine_answer T B k n width) (refused refusal.Count) b) ∙ h1)
             ])
         | inr a ↦ moved refusal.Component e (no_component (ltb-false k (components T) a))
             (sym (cond-false (ltb k (components T)) inner (refused refusal.Component) a) ∙ h)
       ]
   loaded_reason (sweeping n) e h =
       let made = swept (sweeps (setting_of T) n B).made in
-      elim (cases_Bool (counts n)) [
-        | inl b ↦ sweep_accepted (sweeps (setting_of T) n B).made e (sym (cond-true (counts n) made (refused refusal.Count) b) ∙ h)
-        | inr b ↦ moved refusal.Count e (bad_sweeps (miscounted n b)) (sym (cond-false (counts n) made (refused refusal.Count) b) ∙ h)
+      elim (cases_Bool (count_within n)) [
+        | inl b ↦ sweep_accepted (sweeps (setting_of T) n B).made e (sym (cond-true (count_within n) made (refused refusal.Count) b) ∙ h)
+        | inr b ↦ moved refusal.Count e (bad_sweeps (miscounted n b)) (sym (cond-false (count_within n) made (refused refusal.Count) b) ∙ h)
       ]
   loaded_reason close e h = never e h
   loaded_reason (quote s width) e h =
@@ -162,28 +162,28 @@ unfolding answer answer_idle answer_loaded
 load-answer (idle d) T memory = refl
 load-answer (loaded T' B) T memory = refl
 
-needy_refused : (d : Refusal) (c : Call) → Needy c → answer_idle d c ≡ refused refusal.Idle
+needs_table_refused : (d : Refusal) (c : Call) → NeedsTable c → answer_idle d c ≡ refused refusal.Idle
 unfolding answer_idle
-needy_refused d (load T memory) n = absurd n
-needy_refused d standing n = absurd n
-needy_refused d (refines k m width) n = refl
-needy_refused d (sweeping m) n = refl
-needy_refused d close n = refl
-needy_refused d (quote s width) n = refl
-needy_refused d (plan list) n = refl
+needs_table_refused d (load T memory) n = absurd n
+needs_table_refused d standing n = absurd n
+needs_table_refused d (refines k m width) n = refl
+needs_table_refused d (sweeping m) n = refl
+needs_table_refused d close n = refl
+needs_table_refused d (quote s width) n = refl
+needs_table_refused d (plan list) n = refl
 
 refused_by : (S : State) (c : Call) (e : Refusal) → Reason S c e → answer S c ≡ refused e
 unfolding answer answer_idle answer_loaded
 refused_by S c e (broken {T} {memory} {e = d} h) = load-answer S T memory ∙ answer_broken T memory d h
-refused_by S c e (starved {T} h) = load-answer S T false ∙ answer_kept T false h
+refused_by S c e (no_memory {T} h) = load-answer S T false ∙ answer_kept T false h
 refused_by S c e unopened = refl
-refused_by (idle d) c e (needed n) = needy_refused d c n
+refused_by (idle d) c e (needed n) = needs_table_refused d c n
 refused_by S c e (no_component {T} {B} {k} {n} {width} h) =
-    cond-false (ltb k (components T)) (cond (counts n) (refine_answer T B k n width) (refused refusal.Count)) (refused refusal.Component) (le-ltb k (components T) h)
+    cond-false (ltb k (components T)) (cond (count_within n) (refine_answer T B k n width) (refused refusal.Count)) (refused refusal.Component) (le-ltb k (components T) h)
 refused_by S c e (bad_steps {T} {B} {k} {n} {width} l h) =
-    cond-true (ltb k (components T)) (cond (counts n) (refine_answer T B k n width) (refused refusal.Count)) (refused refusal.Component) (lt-ltb k (components T) l)
-    ∙ cond-false (counts n) (refine_answer T B k n width) (refused refusal.Count) (not_counts n h)
-refused_by S c e (bad_sweeps {T} {B} {n} h) = cond-false (counts n) (swept (sweeps (setting_of T) n B).made) (refused refusal.Count) (not_counts n h)
+    cond-true (ltb k (components T)) (cond (count_within n) (refine_answer T B k n width) (refused refusal.Count)) (refused refusal.Component) (lt-ltb k (components T) l)
+    ∙ cond-false (count_within n) (refine_answer T B k n width) (refused refusal.Count) (not_within n h)
+refused_by S c e (bad_sweeps {T} {B} {n} h) = cond-false (count_within n) (swept (sweeps (setting_of T) n B).made) (refused refusal.Count) (not_within n h)
 refused_by S c e (no_state {T} {B} {s} {width} h) = cond-false (ltb s T.states) (quote_answer T B s width) (refused refusal.State) (le-ltb s T.states h)
 refused_by S c e (no_room {T} {B} {list} h) =
     cond-false (leb T.states (length list)) (plan_answer T B list) (refused refusal.Room) (lt-leb T.states (length list) h)
@@ -195,21 +195,21 @@ unfolding answer_loaded after_call
 loaded_unchanged T B (load T' memory) e h = load_unchanged (loaded T B) T' memory e h
 loaded_unchanged T B standing e h = refl
 loaded_unchanged T B (refines k n width) e h =
-    let both = ltb k (components T) && counts n in
+    let both = ltb k (components T) && count_within n in
     let next_one = loaded T (refine (setting_of T) k n width B).book in
-    let inner = cond (counts n) (refine_answer T B k n width) (refused refusal.Count) in
+    let inner = cond (count_within n) (refine_answer T B k n width) (refused refusal.Count) in
     elim (cases_Bool both) [
       | inl a ↦ (
-          let p = and_parts (ltb k (components T)) (counts n) a in
+          let p = and_parts (ltb k (components T)) (count_within n) a in
           let h1 : inner ≡ refused e = sym (cond-true (ltb k (components T)) inner (refused refusal.Component) p.0) ∙ h in
-          refine_accepted T B k n width e (sym (cond-true (counts n) (refine_answer T B k n width) (refused refusal.Count) p.1) ∙ h1))
+          refine_accepted T B k n width e (sym (cond-true (count_within n) (refine_answer T B k n width) (refused refusal.Count) p.1) ∙ h1))
       | inr a ↦ cond-false both next_one (loaded T B) a
     ]
 loaded_unchanged T B (sweeping n) e h =
     let made = swept (sweeps (setting_of T) n B).made in
-    elim (cases_Bool (counts n)) [
-      | inl b ↦ sweep_accepted T B (sweeps (setting_of T) n B).made e (sym (cond-true (counts n) made (refused refusal.Count) b) ∙ h)
-      | inr b ↦ cond-false (counts n) (loaded T (sweeps (setting_of T) n B).book) (loaded T B) b
+    elim (cases_Bool (count_within n)) [
+      | inl b ↦ sweep_accepted T B (sweeps (setting_of T) n B).made e (sym (cond-true (count_within n) made (refused refusal.Count) b) ∙ h)
+      | inr b ↦ cond-false (count_within n) (loaded T (sweeps (setting_of T) n B).book) (loaded T B) b
     ]
 loaded_unchanged T B close e h = never e h
 loaded_unchanged T B (quote s width) e h = refl

@@ -10,7 +10,7 @@ use Rattle.rules.specs.Refine.{refine}
 use Rattle.rules.specs.Sweep.{sweeps}
 use Rattle.rules.specs.Play.{play}
 use Rattle.rules.specs.Promises.{upper_at, lower_at}
-use Rattle.history.specs.Calls.{State, idle, loaded, Call, load, standing, refines, sweeping, close, quote, plan, counts, next}
+use Rattle.history.specs.Calls.{State, idle, loaded, Call, load, standing, refines, sweeping, close, quote, plan, count_within, next}
 use Rattle.history.specs.declared.refusal.Refusal.{Refusal}
 use Rattle.history.specs.declared.refusal.Refusal.TheVariants as refusal
 
@@ -58,8 +58,8 @@ unfoldable pub answer_loaded : Table → Book → Call → Answer
 answer_loaded T B (load T' memory) = load_answer T' memory
 answer_loaded T B standing = stands T.states (components T)
 answer_loaded T B (refines k n width) =
-    cond (nat_lt k (components T)) (cond (counts n) (refine_answer T B k n width) (refused refusal.Count)) (refused refusal.Component)
-answer_loaded T B (sweeping n) = cond (counts n) (swept (sweeps (setting_of T) n B).made) (refused refusal.Count)
+    cond (nat_lt k (components T)) (cond (count_within n) (refine_answer T B k n width) (refused refusal.Count)) (refused refusal.Component)
+answer_loaded T B (sweeping n) = cond (count_within n) (swept (sweeps (setting_of T) n B).made) (refused refusal.Count)
 answer_loaded T B close = done
 answer_loaded T B (quote s width) = cond (nat_lt s T.states) (quote_answer T B s width) (refused refusal.State)
 answer_loaded T B (plan list) = cond (nat_le T.states (length list)) (plan_answer T B list) (refused refusal.Room)

@@ -32,8 +32,8 @@ pub data Call : Type 0 where
   plan : List ℕ → Call
 
 -- a count is 1 to 1,000
-abbrev pub counts : ℕ → Bool
-counts n = nat_le 1 n && nat_le n 1000
+abbrev pub count_within : ℕ → Bool
+count_within n = nat_le 1 n && nat_le n 1000
 
 -- a table at its start
 abbrev pub fresh : Table → State
@@ -59,8 +59,8 @@ after_load T memory S =
 unfoldable pub after_call : Table → Book → Call → State
 after_call T B (load T' memory) = after_load T' memory (loaded T B)
 after_call T B standing = loaded T B
-after_call T B (refines k n width) = cond (nat_lt k (components T) && counts n) (loaded T (refine (setting_of T) k n width B).book) (loaded T B)
-after_call T B (sweeping n) = cond (counts n) (loaded T (sweeps (setting_of T) n B).book) (loaded T B)
+after_call T B (refines k n width) = cond (nat_lt k (components T) && count_within n) (loaded T (refine (setting_of T) k n width B).book) (loaded T B)
+after_call T B (sweeping n) = cond (count_within n) (loaded T (sweeps (setting_of T) n B).book) (loaded T B)
 after_call T B close = fresh T
 after_call T B (quote s width) = loaded T B
 after_call T B (plan list) = loaded T B

@@ -3,23 +3,12 @@ use Rattle.std.specs.Prelude.{◌≡◌, ℕ, ◌^◌, ◌<◌, Bool, List, [], 
 use Rattle.table.specs.Table.{Table}
 use Rattle.table.specs.Limits.{Lawful}
 use Rattle.horizon.specs.Strategies.{Strategy, Names, PlanNames, follow, scaled_reward}
-use Rattle.horizon.specs.Potential.{constant}
 use Rattle.components.specs.Nodes.{components}
 use Rattle.rules.specs.Choosing.{at_z}
-use Rattle.rules.specs.Setting.{least_reward, largest_reward}
+use Rattle.rules.specs.Setting.{scale_in_use, setting_of}
+use Rattle.rules.specs.Promises.{excess}
 use Rattle.history.specs.Calls.{State, idle, loaded, Call, quote, plan, opened, next, run}
 use Rattle.history.specs.Answers.{done, quoted, planned, answer}
-
--- F = 2^20 and H = 2^46
-abbrev pub scale : ℕ
-scale = 1048576
-
-abbrev pub cap : ℕ
-cap = 70368744177664
-
--- C = H + (F × (rmax - rmin) + H) × (W + W² + … + W^n)
-abbrev pub excess : Table → ℕ
-excess T = constant T.denominator scale T.states cap (least_reward T) (largest_reward T)
 
 -- the engine holds the table T
 abbrev pub Holds : State → Table → Type 0
@@ -36,12 +25,12 @@ hi_of (idle e) k = pos 0
 hi_of (loaded T B) k = at_z B.hi k
 
 -- No strategy over any horizon beats the upper bound by more than C: F × V ≤ W^N × (N × U + C),
--- where U is what a quote would answer.
+-- where U is what a quote would answer, and F and C are those of the rules.
 abbrev pub UpperPromise : State → Table → Type 0
 UpperPromise S T =
     (σ : Strategy) → Names T σ → (N s width : ℕ) → s < T.states
     → (L U : ℤ) (mark : ℕ) → answer S (quote s width) ≡ quoted L U mark
-    → (pos scale *ℤ scaled_reward T σ N s []) ≤ℤ (pos (T.denominator ^ N) *ℤ ((pos N *ℤ U) +ℤ pos (excess T)))
+    → (pos scale_in_use *ℤ scaled_reward T σ N s []) ≤ℤ (pos (T.denominator ^ N) *ℤ ((pos N *ℤ U) +ℤ pos (excess (setting_of T))))
 
 -- The plan earns at least the lower bound less C over every horizon: W^N × (N × L - C) ≤ F × V,
 -- where the plan is what would be written, and L what a quote would answer. It names an existing choice of each state.
@@ -49,7 +38,7 @@ pub record LowerPromise (S : State) (T : Table) (plays : ℕ → ℕ) : Type 0 w
   pub names : PlanNames T plays
   pub earns : (N s width : ℕ) → s < T.states
       → (L U : ℤ) (mark : ℕ) → answer S (quote s width) ≡ quoted L U mark
-      → (pos (T.denominator ^ N) *ℤ ((pos N *ℤ L) -ℤ pos (excess T))) ≤ℤ (pos scale *ℤ scaled_reward T (follow plays) N s [])
+      → (pos (T.denominator ^ N) *ℤ ((pos N *ℤ L) -ℤ pos (excess (setting_of T)))) ≤ℤ (pos scale_in_use *ℤ scaled_reward T (follow plays) N s [])
 
 -- No upper bound rises and no lower bound falls from R to S, of a state or of a component.
 pub record Tighter (R S : State) (T : Table) : Type 0 where
@@ -68,10 +57,10 @@ Quiet S (c ∷ cs) = (answer S c ≢ done) × Quiet (next S c) cs
 pub record HistoryLaw (opening : Table) (memory : Bool) : Type 0 where
   -- it keeps all limits
   pub lawful : (calls : List Call) (T : Table) → Holds (run (opened opening memory) calls) T → Lawful T
-  -- no strategy beats the upper bound
+  -- no strategy beats the upper bound by more than C
   pub upper : (calls : List Call) (T : Table) → Holds (run (opened opening memory) calls) T
       → UpperPromise (run (opened opening memory) calls) T
-  -- the plan earns the lower bound
+  -- the plan of that moment earns the lower bound less C
   pub lower : (calls : List Call) (T : Table) → Holds (run (opened opening memory) calls) T
       → (list written : List ℕ) → answer (run (opened opening memory) calls) (plan list) ≡ planned written
       → LowerPromise (run (opened opening memory) calls) T (λ s. slice_index written s)

@@ -11,14 +11,14 @@ use Rattle.history.specs.declared.refusal.Refusal.{Refusal}
 use Rattle.history.specs.declared.refusal.Refusal.TheVariants as refusal
 
 -- the calls that need a table
-abbrev pub Needy : Call → Type 0
-Needy (load T memory) = ⊥
-Needy standing = ⊥
-Needy (refines k n width) = Unit {0}
-Needy (sweeping n) = Unit {0}
-Needy close = Unit {0}
-Needy (quote s width) = Unit {0}
-Needy (plan list) = Unit {0}
+abbrev pub NeedsTable : Call → Type 0
+NeedsTable (load T memory) = ⊥
+NeedsTable standing = ⊥
+NeedsTable (refines k n width) = Unit {0}
+NeedsTable (sweeping n) = Unit {0}
+NeedsTable close = Unit {0}
+NeedsTable (quote s width) = Unit {0}
+NeedsTable (plan list) = Unit {0}
 
 -- a count outside 1 to 1,000
 abbrev pub Miscounted : ℕ → Type 0
@@ -29,11 +29,11 @@ pub data Reason : State → Call → Refusal → Type 0 where
   -- the table breaks a limit: the first on its walk
   broken : {S : State} {T : Table} {memory : Bool} {e : Fault} → fault_of T ≡ Some e → Reason S (load T memory) (refusal.Table e)
   -- it keeps all limits, and there is no memory for it
-  starved : {S : State} {T : Table} → fault_of T ≡ None → Reason S (load T false) refusal.Memory
+  no_memory : {S : State} {T : Table} → fault_of T ≡ None → Reason S (load T false) refusal.Memory
   -- the engine's open was refused
   unopened : {e : Refusal} → Reason (idle e) standing e
   -- the call needs a table
-  needed : {e : Refusal} {c : Call} → Needy c → Reason (idle e) c refusal.Idle
+  needed : {e : Refusal} {c : Call} → NeedsTable c → Reason (idle e) c refusal.Idle
   no_component : {T : Table} {B : Book} {k n width : ℕ} → components T ≤ k → Reason (loaded T B) (refines k n width) refusal.Component
   bad_steps : {T : Table} {B : Book} {k n width : ℕ} → k < components T → Miscounted n → Reason (loaded T B) (refines k n width) refusal.Count
   bad_sweeps : {T : Table} {B : Book} {n : ℕ} → Miscounted n → Reason (loaded T B) (sweeping n) refusal.Count

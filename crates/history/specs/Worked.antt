@@ -4,7 +4,8 @@ use Rattle.std.specs.List.{AllByRecursion}
 use Rattle.table.specs.Table.{Table}
 use Rattle.table.specs.Walk.{fault_of}
 use Rattle.table.specs.declared.fault.Fault.TheVariants.{Sum}
-use Rattle.rules.specs.Worked.{rows, model_a, model_b, model_c, model_d, model_e, model_f}
+use Rattle.components.specs.Worked.{rows}
+use Rattle.rules.specs.Worked.{model_a, model_b, model_c, model_d, model_e, model_f}
 use Rattle.history.specs.Calls.{Call, load, standing, refines, sweeping, close, quote, plan, opened}
 use Rattle.history.specs.Answers.{Answer, refused, done, stands, refined, swept, quoted, planned, answers}
 use Rattle.history.specs.declared.refusal.Refusal.TheVariants as refusal

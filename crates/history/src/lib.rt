@@ -1,7 +1,7 @@
 // What an engine answers and holds after every call, as definitions, and the law over whole histories.
 // The law stands on the contracts of the engine's own calls too (crate `engine`).
 // Two functions below stand for one theorem each: the contract is the theorem, and the answer is the theorem's number.
-// It answers a number since, by a rule of this project, each public function can be turned wrong by an edit that is refused.
+// Each answers a number since, by a rule of this project, each public function can be turned wrong by an edit that is refused.
 #![tactic(auto)]
 
 mod refusal;
@@ -12,8 +12,8 @@ ghost use Rattle.history.specs.Refusing.{RefusalLaw};
 
 pub use refusal::Refusal;
 
-// After every open and every list of calls: no strategy beats the upper bound, the plan earns the lower bound,
-// and bounds only tighten until the next accepted load or close.
+// After every open and every list of calls: no strategy beats the upper bound by more than C,
+// the plan of that moment earns the lower bound less C, and bounds only tighten until the next accepted load or close.
 pub fn histories_keep_promises() -> u8
     ensures number { result ≡ 1 }
     ensures theorem { EveryHistory }

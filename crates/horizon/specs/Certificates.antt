@@ -1,5 +1,5 @@
 -- Certificates: numbers for each state that bound the scaled reward over every horizon.
--- In both, F is the scale, g(s) the gain of a state (its reward per step, times F) and d(s) its bias, which is never negative.
+-- In both, F is the scale; g(s) stands for the gain of a state (reward per step, times F), d(s) for its bias, and is never negative.
 use Rattle.std.specs.Prelude.{ℕ, ◌*◌, ◌^◌, ◌<◌, List, ◌∷◌, ℤ, pos, ◌+ℤ◌, ◌-ℤ◌, ◌*ℤ◌, ◌≤ℤ◌}
 use Rattle.table.specs.Table.{Table}
 use Rattle.table.specs.Limits.{Lawful}

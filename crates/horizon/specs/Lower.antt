@@ -22,9 +22,13 @@ pub record MovingState (T : Table) (p : Plan) (depth : ℕ → ℕ) (y : ℕ →
 
 -- What the lower theorem rests on.
 pub record LowerHypotheses (T : Table) (F D H : ℕ) (high : ℤ) (p : Plan) (depth : ℕ → ℕ) (y : ℕ → ℤ) (t : ℕ → ℕ) : Type 0 where
+  -- no depth is above D
   pub depths : (s : ℕ) → s < T.states → depth s ≤ D
+  -- no number of the vector is above H at depth 0
   pub vectors : (s : ℕ) → s < T.states → depth s ≡ 0 → t s ≤ H
+  -- no value is above F × high
   pub values : (s : ℕ) → s < T.states → y s ≤ℤ (pos F *ℤ high)
+  -- every state is staying or moving
   pub states : (s : ℕ) → s < T.states → StayingState T F p depth y t s ⊎ MovingState T p depth y s
 
 -- W^N × (N × y(s) - C(D)) ≤ F × V of the plan, for every N

@@ -22,11 +22,11 @@ Descends T depth s c = (b : ℕ) × (b < T.branches s c) × (depth (successor T 
 abbrev pub RewardsBetween : Table → ℤ → ℤ → Type 0
 RewardsBetween T low high = (s c : ℕ) → s < T.states → c < T.choices s → (low ≤ℤ T.reward s c) × (T.reward s c ≤ℤ high)
 
--- F × (high - low) + H: what one step that descends can cost
+-- F × |high - low| + H: what one step that descends can cost; with rewards between low and high it is F × (high - low) + H
 abbrev pub step_cost : ℕ → ℕ → ℤ → ℤ → ℕ
 step_cost F H low high = F * unsigned_abs (high -ℤ low) + H
 
--- C(D) = H + (F × (high - low) + H) × (W + W² + … + W^D)
+-- C(D) = H + (F × |high - low| + H) × (W + W² + … + W^D)
 abbrev pub constant : ℕ → ℕ → ℕ → ℕ → ℤ → ℤ → ℕ
 constant W F D H low high = H + step_cost F H low high * powers W D
 

@@ -3,7 +3,7 @@ use Rattle.std.specs.Prelude.{ℕ, zero, suc, ◌^◌, ◌<◌, List, [], ◌∷
 use Rattle.table.specs.Table.{Table}
 use Rattle.horizon.specs.Sums.{branch_sum_z}
 
--- A strategy gives a choice for every list of states up to the present one.
+-- A strategy names one choice, with no lots drawn, for every list of states up to the present one.
 -- The list is held newest first: in s ∷ past, s is the present state and past are the states before it.
 -- A history that starts at s starts with the list s ∷ [], of s alone.
 abbrev pub Strategy : Type 0

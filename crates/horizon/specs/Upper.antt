@@ -20,9 +20,13 @@ pub record LeavingChoice (T : Table) (node depth : ℕ → ℕ) (x : ℕ → ℤ
 
 -- What the upper theorem rests on: x and depth belong to the nodes, the vector t to the states.
 pub record UpperHypotheses (T : Table) (F D H : ℕ) (low : ℤ) (node depth : ℕ → ℕ) (x : ℕ → ℤ) (t : ℕ → ℕ) : Type 0 where
+  -- no depth is above D
   pub depths : (s : ℕ) → s < T.states → depth (node s) ≤ D
+  -- no number of the vector is above H
   pub vectors : (s : ℕ) → s < T.states → t s ≤ H
+  -- every value is F × low at least
   pub values : (s : ℕ) → s < T.states → (pos F *ℤ low) ≤ℤ x (node s)
+  -- every choice is inside or leaving
   pub choices : (s c : ℕ) → s < T.states → c < T.choices s → InsideChoice T F node x t s c ⊎ LeavingChoice T node depth x s c
 
 -- F × V ≤ W^N × (N × x(node of s) + C(D)), for every strategy and every N

@@ -1,6 +1,6 @@
 // What certificates, depths and plans say of the scaled reward over every horizon, and the two sides of a mean.
 // Each function below stands for one theorem: its contract is the theorem, and it answers the theorem's number.
-// It answers a number since, by a rule of this project, each public function can be turned wrong by an edit that is refused.
+// Each answers a number since, by a rule of this project, each public function can be turned wrong by an edit that is refused.
 #![tactic(auto)]
 
 mod side;

@@ -40,7 +40,7 @@ pub struct UpperSide;
 #[derive(Clone, Copy, PartialEq, Eq, Debug)]
 pub struct LowerSide;
 
-// The quotient toward zero and what remains, both 0 where the denominator is 0. A side moves the quotient by one at most.
+// The quotient toward zero and what remains, both 0 where the denominator is 0: the rules round to 0 there, so that a mean is total. A side moves the quotient by one at most.
 fn divided(total: i64, denominator: u32) -> (i64, i64)
     ensures zero { denominator ≡ 0 → (result.0 ≡ pos 0) × (result.1 ≡ pos 0) }
     ensures whole { 1 ≤ denominator → result.0 ≡ int_div total (pos denominator) }

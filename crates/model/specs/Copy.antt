@@ -46,7 +46,7 @@ pub record HoldsState (T : Table) (s : ℕ) (row : StateRow) (choices : List Cho
 abbrev pub Earned : Table → ℕ → ℤ → Type 0
 Earned T k r = (s : ℕ) × (c : ℕ) × (s < k) × (c < T.choices s) × (T.reward s c ≡ r)
 
--- the lists hold the first k states, and no row of a choice more
+-- the lists hold the first k states, and each row of a choice earns what one of their choices earns
 pub record StatesCopied (T : Table) (k : ℕ) (states : List StateRow) (choices : List ChoiceRow) (branches : List (ℕ × ℕ)) : Type 0 where
   pub size : length states ≡ k
   pub few_choices : length choices ≤ 16 * k

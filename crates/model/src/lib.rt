@@ -5,6 +5,7 @@ mod copy;
 mod fault;
 mod lend;
 mod load;
+mod lookup;
 mod model;
 mod notice;
 mod rewards;

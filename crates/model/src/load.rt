@@ -1,5 +1,4 @@
-ghost use Rattle.std.specs.Prelude.{◌≡◌, ℕ, length, MatchResult, slice_index_or};
-ghost use Rattle.model.specs.Held.{table_of};
+ghost use Rattle.std.specs.Prelude.{MatchResult};
 ghost use Rattle.model.specs.Loads.{Loaded, RefusedLoad};
 
 use crate::copy::copy_states;
@@ -16,6 +15,7 @@ impl Model {
     {
         check(source)?;
         let rows = copy_states(heap, source)?;
+        // 0 of no choices, which a lawful table does not have: a `let .. else` for each would only say that it never comes
         let least = least_reward(&rows.choices).unwrap_or(0);
         let largest = largest_reward(&rows.choices).unwrap_or(0);
         Ok(Model {
@@ -23,27 +23,5 @@ impl Model {
             least,
             largest,
         })
-    }
-
-    // The branches of a choice, in one run: none where there is no such choice.
-    pub fn branches_of(&self, state: u32, choice: u32) -> &[(u32, u32)]
-        ensures count { length result.now ≡ (table_of self.now).branches state choice }
-        ensures each { (b : ℕ) → slice_index_or {A = ℕ × ℕ} result.now b (0, 0) ≡ (table_of self.now).branch state choice b }
-    {
-        self.rows.list().branches_of(state, choice)
-    }
-
-    // The least reward of its table.
-    pub fn least_reward(&self) -> i32
-        ensures { result ≡ self.now.least }
-    {
-        self.least
-    }
-
-    // The largest reward of its table.
-    pub fn largest_reward(&self) -> i32
-        ensures { result ≡ self.now.largest }
-    {
-        self.largest
     }
 }

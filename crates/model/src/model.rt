@@ -1,7 +1,7 @@
 ghost use Rattle.std.specs.Prelude.{◌≡◌, ◌≤◌, Some, vec_len};
 ghost use Rattle.std.specs.Int.{int_min, int_max};
 ghost use Rattle.std.specs.List.{reduce};
-ghost use Rattle.sources.specs.Rows.{list_table};
+ghost use Rattle.sources.specs.Rows.{owned_table};
 ghost use Rattle.model.specs.Rewards.{rewards};
 ghost use Rattle.model.specs.Unbroken.{Unbroken};
 
@@ -15,7 +15,7 @@ pub struct Model {
     pub least: i32,
     pub largest: i32,
     ghost few: { vec_len rows.states ≤ 256 },
-    ghost lawful: { Unbroken (list_table rows.denominator rows.states.items rows.choices.items rows.branches.items) },
+    ghost lawful: { Unbroken (owned_table rows) },
     ghost least_is: { reduce int_min (rewards rows.choices.items) ≡ Some least },
     ghost largest_is: { reduce int_max (rewards rows.choices.items) ≡ Some largest },
 }

@@ -1,17 +1,16 @@
 -- Records and whole files that are accepted stand in the file as the writer writes them.
 use Rattle.std.proofs.Common.{◌≡◌, ℕ, zero, suc, ◌+◌, ◌^◌, ◌<◌, ◌≤◌, cond, ltb, leb, List, [], ◌++◌, length, drop, Ok, sym, refl, ap, ◌∙◌, subst, ap₂, arith, w32, SFits}
 use Rattle.std.proofs.lemmas.List.{append-nil, drop_all}
-use Rattle.std.proofs.lemmas.Bool.{leb-true, ltb-true, ltb-false}
+use Rattle.std.proofs.lemmas.Bool.{leb-true, ltb-false}
 use Rattle.std.specs.List.{flat_map, AllByRecursion}
 use Rattle.modelfile.specs.Results.{and_then, of_record, of_file, when_set}
 use Rattle.modelfile.specs.Bytes.{number, signed, text, branches}
-use Rattle.modelfile.specs.Records.{HeaderFields, ChoiceFields, has_bit, header, state, choice}
+use Rattle.modelfile.specs.Records.{HeaderFields, ChoiceFields, has_bit, bit_map, header, state, choice}
 use Rattle.modelfile.specs.File.{Model, choice_run, state_run, at_end, body, read_file}
 use Rattle.modelfile.specs.Written.{bytes_of, written_signed, written_text, written_branches, if_there, bit_of, written_choice, written_state, written, FourBytes, TwoBytes, TextFits, BranchesFit, WhereThere, ChoiceFits, StateFits, ModelFits}
-use Rattle.modelfile.specs.declared.fault.RecordFault.TheVariants.{UnknownBit}
 use Rattle.modelfile.specs.declared.fault.FileFault.TheVariants.{Trailing, TooLong}
 use Rattle.modelfile.proofs.Fields.{ok_same}
-use Rattle.modelfile.proofs.Inverse.{then_inv, record_inv, file_inv, test_inv, end_inv}
+use Rattle.modelfile.proofs.Inverse.{then_inv, record_inv, file_inv, test_inv, end_inv, map_inv}
 use Rattle.modelfile.proofs.Accepted.{Stands, stands_none, stands_append, Small, number_reads, signed_reads, text_reads, branches_reads, set_reads}
 
 -- a bit map is the sum of its bits
@@ -47,11 +46,11 @@ pub record HeaderFits (h : HeaderFields) : Type 0 where
 module _ (file : List ℕ) (small : Small file) where
   pub choice_reads : (p : ℕ) (v : ChoiceFields × ℕ) → choice file p ≡ Ok v → Stands file p (written_choice v.0) v.1 × ChoiceFits v.0
   choice_reads p v h =
-      let t0 = then_inv (of_record (number 1 file p)) _ h in
+      let t0 = then_inv (bit_map 7 file p) _ h in
       let m : ℕ × ℕ = t0.0 in
-      let a = number_reads file small 1 p m (record_inv (number 1 file p) t0.1) in
-      let known = test_inv (ltb m.0 8) _ (UnknownBit p) t0.2 in
-      let t1 = then_inv (of_record (when_set (has_bit 1 m.0) m.1 (signed file m.1))) _ known.1 in
+      let map = map_inv 7 file p m t0.1 in
+      let a = number_reads file small 1 p m map.0 in
+      let t1 = then_inv (of_record (when_set (has_bit 1 m.0) m.1 (signed file m.1))) _ t0.2 in
       let r = t1.0 in
       let b = set_reads file small (has_bit 1 m.0) 1 m.1 (signed file m.1) written_signed (SFits w32) a.0.inside (signed_reads file small m.1) r (record_inv (when_set (has_bit 1 m.0) m.1 (signed file m.1)) t1.1) in
       let t2 = then_inv (of_record (when_set (has_bit 2 m.0) r.1 (branches file r.1))) _ t1.2 in
@@ -60,7 +59,7 @@ module _ (file : List ℕ) (small : Small file) where
       let t3 = then_inv (of_record (when_set (has_bit 4 m.0) s.1 (text file s.1))) _ t2.2 in
       let l = t3.0 in
       let d = set_reads file small (has_bit 4 m.0) 4 s.1 (text file s.1) written_text TextFits c.0.inside (text_reads file small s.1) l (record_inv (when_set (has_bit 4 m.0) s.1 (text file s.1)) t3.1) in
-      let below : m.0 < 8 = ltb-true m.0 8 known.0 in
+      let below : m.0 < 8 = omega (arith, map.1) in
       let bits : m.0 ≡ bit_of 1 r.0 + bit_of 2 s.0 + bit_of 4 l.0 =
       sym (ap₂ ◌+◌ (ap₂ ◌+◌ b.1 c.1) d.1 ∙ three_bits m.0 below) in
       subst (λ (v : ChoiceFields × ℕ). Stands file p (written_choice v.0) v.1 × ChoiceFits v.0) (ok_same t3.2) (
@@ -70,11 +69,11 @@ module _ (file : List ℕ) (small : Small file) where
 
   pub header_reads : (p : ℕ) (v : HeaderFields × ℕ) → header file p ≡ Ok v → Stands file p (written_header v.0) v.1 × HeaderFits v.0
   header_reads p v h =
-      let t0 = then_inv (of_record (number 1 file p)) _ h in
+      let t0 = then_inv (bit_map 3 file p) _ h in
       let m : ℕ × ℕ = t0.0 in
-      let a = number_reads file small 1 p m (record_inv (number 1 file p) t0.1) in
-      let known = test_inv (ltb m.0 4) _ (UnknownBit p) t0.2 in
-      let t1 = then_inv (of_record (when_set (has_bit 1 m.0) m.1 (number 4 file m.1))) _ known.1 in
+      let map = map_inv 3 file p m t0.1 in
+      let a = number_reads file small 1 p m map.0 in
+      let t1 = then_inv (of_record (when_set (has_bit 1 m.0) m.1 (number 4 file m.1))) _ t0.2 in
       let r = t1.0 in
       let b = set_reads file small (has_bit 1 m.0) 1 m.1 (number 4 file m.1) (bytes_of 4) FourBytes a.0.inside (number_reads file small 4 m.1) r (record_inv (when_set (has_bit 1 m.0) m.1 (number 4 file m.1)) t1.1) in
       let t2 = then_inv (of_record (when_set (has_bit 2 m.0) r.1 (text file r.1))) _ t1.2 in
@@ -83,7 +82,7 @@ module _ (file : List ℕ) (small : Small file) where
       let t3 = then_inv (of_record (number 2 file s.1)) _ t2.2 in
       let n : ℕ × ℕ = t3.0 in
       let d = number_reads file small 2 s.1 n (record_inv (number 2 file s.1) t3.1) in
-      let below : m.0 < 4 = ltb-true m.0 4 known.0 in
+      let below : m.0 < 4 = omega (arith, map.1) in
       let bits : m.0 ≡ bit_of 1 r.0 + bit_of 2 s.0 = sym (ap₂ ◌+◌ b.1 c.1 ∙ two_bits m.0 below) in
       subst (λ (v : HeaderFields × ℕ). Stands file p (written_header v.0) v.1 × HeaderFits v.0) (ok_same t3.2) (
         stands_append (subst (λ (x : ℕ). Stands file p (bytes_of 1 x) m.1) bits a.0) (stands_append b.0 (stands_append c.0 d.0)),

@@ -3,7 +3,7 @@ use Rattle.std.proofs.Common.{◌≡◌, ℕ, zero, suc, ◌+◌, ◌-◌, ◌*�
 use Rattle.std.proofs.lemmas.List.{drop-drop, take-take, drop-take}
 use Rattle.std.proofs.lemmas.Bool.{le-leb}
 use Rattle.modelfile.specs.Results.{and_then}
-use Rattle.modelfile.specs.Bytes.{little_endian, branch, branch_run, branch_list}
+use Rattle.modelfile.specs.Bytes.{branch_of, branch, branch_run, branch_list}
 use Rattle.modelfile.specs.declared.fault.ByteFault.{ByteFault}
 
 pub ok_same : {A E : Type 0} {a b : A} → ◌≡◌ {A = Result A E} (Ok a) (Ok b) → a ≡ b
@@ -17,13 +17,15 @@ then_err next h = ap (λ r. and_then r next) h
 
 module _ (file : List ℕ) where
   pub branch_ok : (p : ℕ) → p + 6 ≤ length file
-      → branch file p ≡ Ok ((little_endian (take 2 (drop p file)), little_endian (take 4 (drop 2 (drop p file)))), p + 6)
+      → branch file p ≡ Ok (branch_of (take 6 (drop p file)), p + 6)
   branch_ok p h =
       let a : leb (p + 2) (length file) ≡ true = le-leb (p + 2) (length file) (omega arith) in
       let b : leb (p + 2 + 4) (length file) ≡ true = le-leb (p + 2 + 4) (length file) (omega arith) in
       let s : p + 2 + 4 ≡ p + 6 = omega arith in
       let d : drop 2 (drop p file) ≡ drop (p + 2) file = drop-drop 2 p file in
-      rw (a, b, s, d)
+      let low : take 2 (take 6 (drop p file)) ≡ take 2 (drop p file) = take-take 2 6 (drop p file) (omega arith) in
+      let high : drop 2 (take 6 (drop p file)) ≡ take 4 (drop 2 (drop p file)) = drop-take 2 4 (drop p file) in
+      rw (a, b, s, low, high, d)
 
   -- enough bytes for k branches
   pub run_ok : (k p : ℕ) → p + 6 * k ≤ length file → branch_run k file p ≡ Ok (branch_list k (drop p file), p + 6 * k)
@@ -34,7 +36,7 @@ module _ (file : List ℕ) where
       let b = branch_ok p (omega arith) in
       let r = run_ok k (p + 6) (omega arith) in
       then_ok (λ b. and_then (branch_run k file b.1) (λ bs. Ok (b.0 ∷ bs.0, bs.1))) b
-      ∙ then_ok (λ bs. Ok ((little_endian (take 2 (drop p file)), little_endian (take 4 (drop 2 (drop p file)))) ∷ bs.0, bs.1)) r
+      ∙ then_ok (λ bs. Ok (branch_of (take 6 (drop p file)) ∷ bs.0, bs.1)) r
       ∙ rw (d, e)
 
   -- the first of k branches that lacks bytes decides
@@ -48,7 +50,7 @@ module _ (file : List ℕ) where
       let b = branch_ok p (omega arith) in
       let r = run_err k i (p + 6) e (omega arith) (omega arith) (ap (branch file) (sym q) ∙ f) in
       then_ok (λ b. and_then (branch_run k file b.1) (λ bs. Ok (b.0 ∷ bs.0, bs.1))) b
-      ∙ then_err (λ bs. Ok ((little_endian (take 2 (drop p file)), little_endian (take 4 (drop 2 (drop p file)))) ∷ bs.0, bs.1)) r
+      ∙ then_err (λ bs. Ok (branch_of (take 6 (drop p file)) ∷ bs.0, bs.1)) r
 
 cut : (i n : ℕ) (bytes : List ℕ) → i ≤ n → drop i (take n bytes) ≡ take (n - i) (drop i bytes)
 cut i n bytes h = let q : n ≡ i + (n - i) = omega arith in ap (λ (m : ℕ). drop i (take m bytes)) q ∙ drop-take i (n - i) bytes
@@ -57,9 +59,7 @@ cut i n bytes h = let q : n ≡ i + (n - i) = omega arith in ap (λ (m : ℕ). d
 pub list_cut : (k n : ℕ) (bytes : List ℕ) → 6 * k ≤ n → branch_list k (take n bytes) ≡ branch_list k bytes
 list_cut zero n bytes h = refl
 list_cut (suc k) n bytes h =
-    let a = take-take 2 n bytes (omega arith) in
-    let b = cut 2 n bytes (omega arith) in
-    let c = take-take 4 (n - 2) (drop 2 bytes) (omega arith) in
+    let a = take-take 6 n bytes (omega arith) in
     let d = cut 6 n bytes (omega arith) in
     let r = list_cut k (n - 6) (drop 6 bytes) (omega arith) in
-    rw (a, b, c, d, r)
+    rw (a, d, r)

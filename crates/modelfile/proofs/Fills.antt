@@ -1,6 +1,6 @@
 -- Filling a list: one row more, and the branches of a run of bytes.
-use Rattle.std.proofs.Common.{◌≡◌, ℕ, zero, suc, ◌+◌, ◌<◌, List, length, map, take, drop, get_or, set, sym, refl, ap, ◌∙◌, arith}
-use Rattle.std.proofs.lemmas.List.{take-take, drop-take, drop_more}
+use Rattle.std.proofs.Common.{◌≡◌, ℕ, zero, suc, ◌+◌, ◌<◌, List, ◌∷◌, length, map, take, drop, get_or, set, sym, refl, ap, ◌∙◌, arith}
+use Rattle.std.proofs.lemmas.List.{drop_more}
 use Rattle.std.specs.Simd.{first_chunks}
 use Rattle.modelfile.specs.Bytes.{branch_of, branch_list}
 use Rattle.modelfile.specs.Filling.{fill}
@@ -16,10 +16,7 @@ fill_more f xs d i first list h =
 pub chunk_branches : (k : ℕ) (bytes : List ℕ) → map branch_of (first_chunks 6 k bytes) ≡ branch_list k bytes
 chunk_branches zero bytes = refl
 chunk_branches (suc k) bytes =
-    let a : take 2 (take 6 bytes) ≡ take 2 bytes = take-take 2 6 bytes (omega arith) in
-    let b : drop 2 (take 6 bytes) ≡ take 4 (drop 2 bytes) = drop-take 2 4 bytes in
-    let r = chunk_branches k (drop 6 bytes) in
-    rw (a, b, r)
+    ap (λ bs. branch_of (take 6 bytes) ∷ bs) (chunk_branches k (drop 6 bytes))
 
 pub list_long : (k : ℕ) (bytes : List ℕ) → length (branch_list k bytes) ≡ k
 list_long zero bytes = refl

@@ -2,11 +2,11 @@
 use Rattle.std.proofs.Common.{◌≡◌, ℕ, zero, suc, ◌+◌, ◌^◌, ◌<◌, ◌≤◌, Bool, true, false, cond, ltb, leb, List, [], ◌∷◌, ◌++◌, length, take, drop, replicate, Some, None, Ok, Err, Option, Result, sym, refl, ap, ◌∙◌, subst, ap₂, arith, w32, SFits, to_z}
 use mir.Facts.{sfits_to_z}
 use Rattle.std.proofs.lemmas.List.{append_assoc, append-nil, take_at}
-use Rattle.std.proofs.lemmas.Bool.{leb-true, ltb-true}
+use Rattle.std.proofs.lemmas.Bool.{leb-true}
 use Rattle.std.specs.List.{flat_map}
 use Rattle.modelfile.specs.Results.{Read, and_then, of_record, of_file, when_set}
 use Rattle.modelfile.specs.Bytes.{number, signed, text, branches}
-use Rattle.modelfile.specs.Records.{HeaderFields, ChoiceFields, has_bit, header, state, choice}
+use Rattle.modelfile.specs.Records.{HeaderFields, ChoiceFields, has_bit, bit_map, header, state, choice}
 use Rattle.modelfile.specs.File.{Model, choice_run, state_run, at_end, body, read_file}
 use Rattle.modelfile.specs.Written.{bytes_of, written_signed, written_text, written_branches, if_there, bit_of, written_choice, written_state, written, TwoBytes, FourBytes, TextFits, BranchesFit, ChoiceFits, StateFits, ModelFits}
 use Rattle.modelfile.specs.Faults.{notice_of}
@@ -16,7 +16,7 @@ use Rattle.modelfile.specs.declared.fault.RecordFault.TheVariants.{Bytes, Unknow
 use Rattle.modelfile.specs.declared.fault.ByteFault.TheVariants.{Lacking}
 use Rattle.modelfile.specs.declared.fault.FileFault.{FileFault}
 use Rattle.modelfile.specs.declared.fault.FileFault.TheVariants.{Unread, Trailing, TooLong}
-use Rattle.modelfile.proofs.Inverse.{record_inv}
+use Rattle.modelfile.proofs.Inverse.{record_inv, map_inv}
 use Rattle.modelfile.proofs.Accepted.{Stands, stands_none, stands_append, Small, number_reads, signed_reads, text_reads, branches_reads, set_reads}
 use Rattle.modelfile.proofs.AcceptedFile.{two_bits, three_bits, written_header, HeaderFits, header_reads, choice_reads, choices_read, states_read}
 use Rattle.modelfile.proofs.RestoredFile.{file_restores}
@@ -89,24 +89,29 @@ three_parts : (a b c d : List ℕ) → a ++ (b ++ (c ++ d)) ≡ (a ++ (b ++ c)) 
 three_parts a b c d = simp (append_assoc, append-nil)
 
 module _ (file : List ℕ) (small : Small file) where
-  -- behind a known bit map
-  known_stops : {X A : Type 0} (b : Bool) (p : ℕ) (r : Read X RecordFault) (write : A → List ℕ) (Fit : A → Type 0) → p ≤ length file → (v : A) → Fit v
-      → (b ≡ true → Stops file record_at p r write Fit) → Stops file record_at p (cond b r (Err (UnknownBit p))) write Fit
-  known_stops true p r write Fit h v fit k e q = k refl e q
-  known_stops false p r write Fit h v fit k e q =
-      let s : UnknownBit p ≡ e = err_same q in
-      subst (λ (y : RecordFault). Begun file p (record_at y) write Fit) s (begun_none file p h v fit)
+  -- a bit map stops at its start, whether its byte lacks or a bit is unknown
+  map_stops : {A : Type 0} (every p : ℕ) (write : A → List ℕ) (Fit : A → Type 0) → p ≤ length file → (v : A) → Fit v
+      → Stops file record_at p (bit_map every file p) write Fit
+  map_stops every p write Fit h v fit =
+      then_stops file record_at p (of_record (number 1 file p)) _ write Fit
+      (of-record file p (number 1 file p) write Fit (number_stops file 1 p write Fit h v fit)) (λ m _. tested (leb m.0 every) m)
+    where
+      tested : (b : Bool) (m : ℕ × ℕ) → Stops file record_at p (cond b (Ok m) (Err (UnknownBit p))) write Fit
+      tested true m e q = absurd (ok_err q)
+      tested false m e q =
+          let s : UnknownBit p ≡ e = err_same q in
+          subst (λ (y : RecordFault). Begun file p (record_at y) write Fit) s (begun_none file p h v fit)
 
   choice_stops : (p : ℕ) → p ≤ length file → Stops file record_at p (choice file p) written_choice ChoiceFits
   choice_stops p h =
-      then_stops file record_at p (of_record (number 1 file p)) _ written_choice ChoiceFits
-      (of-record file p (number 1 file p) written_choice ChoiceFits (number_stops file 1 p written_choice ChoiceFits h no_choice no_choice_fits)) (λ m q0.
-      let a = number_reads file small 1 p m (record_inv (number 1 file p) q0) in
+      then_stops file record_at p (bit_map 7 file p) _ written_choice ChoiceFits
+      (map_stops 7 p written_choice ChoiceFits h no_choice no_choice_fits) (λ m q0.
+      let map = map_inv 7 file p m q0 in
+      let a = number_reads file small 1 p m map.0 in
       let b1 : Bool = has_bit 1 m.0 in
       let b2 : Bool = has_bit 2 m.0 in
       let b4 : Bool = has_bit 4 m.0 in
-      known_stops (ltb m.0 8) p _ written_choice ChoiceFits h no_choice no_choice_fits (λ known.
-      let below : m.0 < 8 = ltb-true m.0 8 known in
+      let below : m.0 < 8 = omega (arith, map.1) in
       let part1 = when_set b1 m.1 (signed file m.1) in
       let noBranches : Option (List (ℕ × ℕ)) = if_set b2 [] in
       let no_label : Option (List ℕ) = if_set b4 [] in
@@ -135,17 +140,17 @@ module _ (file : List ℕ) (small : Small file) where
       let v : ChoiceFields = record { reward = r.0; branches = t.0; label = s.value } in
       let made = choice_made m.0 below v (b.1, b.2) (c.1, c.2) s.fits in
       begun_within file (bytes_of 1 m.0 ++ (if_there written_signed r.0 ++ if_there written_branches t.0)) [] (stands_append a.0 (stands_append b.0 c.0)) s v made.0
-      (made.1 ∙ three_parts (bytes_of 1 m.0) (if_there written_signed r.0) (if_there written_branches t.0) (if_there written_text s.value)))) (λ l _ e q. absurd (ok_err q))))))
+      (made.1 ∙ three_parts (bytes_of 1 m.0) (if_there written_signed r.0) (if_there written_branches t.0) (if_there written_text s.value)))) (λ l _ e q. absurd (ok_err q)))))
 
   header_stops : (p : ℕ) → p ≤ length file → Stops file record_at p (header file p) written_header HeaderFits
   header_stops p h =
-      then_stops file record_at p (of_record (number 1 file p)) _ written_header HeaderFits
-      (of-record file p (number 1 file p) written_header HeaderFits (number_stops file 1 p written_header HeaderFits h no_header no_header_fits)) (λ m q0.
-      let a = number_reads file small 1 p m (record_inv (number 1 file p) q0) in
+      then_stops file record_at p (bit_map 3 file p) _ written_header HeaderFits
+      (map_stops 3 p written_header HeaderFits h no_header no_header_fits) (λ m q0.
+      let map = map_inv 3 file p m q0 in
+      let a = number_reads file small 1 p m map.0 in
       let b1 : Bool = has_bit 1 m.0 in
       let b2 : Bool = has_bit 2 m.0 in
-      known_stops (ltb m.0 4) p _ written_header HeaderFits h no_header no_header_fits (λ known.
-      let below : m.0 < 4 = ltb-true m.0 4 known in
+      let below : m.0 < 4 = omega (arith, map.1) in
       let part1 = when_set b1 m.1 (number 4 file m.1) in
       let noName : Option (List ℕ) = if_set b2 [] in
       then_stops file record_at p (of_record part1) _ written_header HeaderFits
@@ -170,7 +175,7 @@ module _ (file : List ℕ) (small : Small file) where
       let v : HeaderFields = record { denominator = r.0; name = t.0; states = s.value } in
       let made = header_made m.0 below v (b.1, b.2) (c.1, c.2) s.fits in
       begun_within file (bytes_of 1 m.0 ++ (if_there (bytes_of 4) r.0 ++ if_there written_text t.0)) [] (stands_append a.0 (stands_append b.0 c.0)) s v made.0
-      (made.1 ∙ three_parts (bytes_of 1 m.0) (if_there (bytes_of 4) r.0) (if_there written_text t.0) (bytes_of 2 s.value)))) (λ l _ e q. absurd (ok_err q))))))
+      (made.1 ∙ three_parts (bytes_of 1 m.0) (if_there (bytes_of 4) r.0) (if_there written_text t.0) (bytes_of 2 s.value)))) (λ l _ e q. absurd (ok_err q)))))
 
   choices_stop : (k p : ℕ) → p ≤ length file → Stops file record_at p (choice_run k file p) (flat_map written_choice) (Many ChoiceFits k)
   choices_stop zero p h = λ e q. absurd (ok_err q)

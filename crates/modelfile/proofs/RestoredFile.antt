@@ -1,11 +1,11 @@
 -- What the writer writes is read back: records and whole files.
 use Rattle.std.proofs.Common.{◌≡◌, ℕ, ◌+◌, ◌<◌, ◌≤◌, ltb, leb, List, [], ◌∷◌, ◌++◌, length, is_some, Some, None, Ok, Err, Option, sym, refl, ap, ◌∙◌, arith, w32, SFits}
 use Rattle.std.proofs.lemmas.List.{append-nil, drop_all}
-use Rattle.std.proofs.lemmas.Bool.{le-leb, lt-ltb, le-ltb, cond-true, cond-false}
+use Rattle.std.proofs.lemmas.Bool.{le-leb, le-ltb, cond-true, cond-false}
 use Rattle.std.specs.List.{flat_map, AllByRecursion}
 use Rattle.modelfile.specs.Results.{of_record, of_file, when_set}
 use Rattle.modelfile.specs.Bytes.{number, signed, text, branches}
-use Rattle.modelfile.specs.Records.{HeaderFields, ChoiceFields, has_bit, header, choice}
+use Rattle.modelfile.specs.Records.{HeaderFields, ChoiceFields, has_bit, bit_map, header, choice}
 use Rattle.modelfile.specs.File.{Model, choice_run, state_run, at_end, read_file}
 use Rattle.modelfile.specs.Written.{bytes_of, written_signed, written_text, written_branches, if_there, bit_of, written_choice, written_state, written, FourBytes, TextFits, BranchesFit, ChoiceFits, StateFits, ModelFits}
 use Rattle.modelfile.specs.declared.fault.FileFault.TheVariants.{Trailing, TooLong}
@@ -35,6 +35,9 @@ three_there (Some a) (Some b) None = (refl, refl, refl, omega arith)
 three_there (Some a) (Some b) (Some c) = (refl, refl, refl, omega arith)
 
 module _ (file : List ℕ) where
+  map_restores : (every m p q : ℕ) → number 1 file p ≡ Ok (m, q) → m ≤ every → bit_map every file p ≡ Ok (m, q)
+  map_restores every m p q e h = then_ok _ (ap of_record e) ∙ cond-true (leb m every) _ _ (le-leb m every h)
+
   pub choice_restores : (c : ChoiceFields) (p q : ℕ) → ChoiceFits c → Stands file p (written_choice c) q → choice file p ≡ Ok (c, q)
   choice_restores c p q h s =
       let m : ℕ = bit_of 1 c.reward + bit_of 2 c.branches + bit_of 4 c.label in
@@ -57,9 +60,8 @@ module _ (file : List ℕ) where
       set_restores file c.branches (has_bit 2 m) p2 p3 (branches file p2) written_branches BranchesFit bits.1 (λ b. branches_restores file b p2 p3) h.branches (stands_left file p2 q B L s2) in
       let e3 : when_set (has_bit 4 m) p3 (text file p3) ≡ Ok (c.label, q) =
       set_restores file c.label (has_bit 4 m) p3 q (text file p3) written_text TextFits bits.2 (λ t. text_restores file t p3 q) h.label s3 in
-      then_ok _ (ap of_record e0)
-      ∙ (cond-true (ltb m 8) _ _ (lt-ltb m 8 below)
-      ∙ (then_ok _ (ap of_record e1) ∙ (then_ok _ (ap of_record e2) ∙ then_ok _ (ap of_record e3))))
+      then_ok _ (map_restores 7 m p p1 e0 (omega arith))
+      ∙ (then_ok _ (ap of_record e1) ∙ (then_ok _ (ap of_record e2) ∙ then_ok _ (ap of_record e3)))
 
   pub header_restores : (v : HeaderFields) (p q : ℕ) → HeaderFits v → Stands file p (written_header v) q → header file p ≡ Ok (v, q)
   header_restores v p q h s =
@@ -82,9 +84,8 @@ module _ (file : List ℕ) where
       let e2 : when_set (has_bit 2 m) p2 (text file p2) ≡ Ok (v.name, p3) =
       set_restores file v.name (has_bit 2 m) p2 p3 (text file p2) written_text TextFits bits.1 (λ t. text_restores file t p2 p3) h.name (stands_left file p2 q T N s2) in
       let e3 : number 2 file p3 ≡ Ok (v.states, q) = number_restores file 2 v.states p3 q h.states s3 in
-      then_ok _ (ap of_record e0)
-      ∙ (cond-true (ltb m 4) _ _ (lt-ltb m 4 below)
-      ∙ (then_ok _ (ap of_record e1) ∙ (then_ok _ (ap of_record e2) ∙ then_ok _ (ap of_record e3))))
+      then_ok _ (map_restores 3 m p p1 e0 (omega arith))
+      ∙ (then_ok _ (ap of_record e1) ∙ (then_ok _ (ap of_record e2) ∙ then_ok _ (ap of_record e3)))
 
   pub choices_restore : (cs : List ChoiceFields) (p q : ℕ) → AllByRecursion ChoiceFits cs → Stands file p (flat_map written_choice cs) q → choice_run (length cs) file p ≡ Ok (cs, q)
   choices_restore [] p q h s = let e = s.place in let f : p ≡ q = omega arith in ap (λ (x : ℕ). Ok ([], x)) f

@@ -49,7 +49,7 @@ branch_of bytes = (little_endian (take 2 bytes), little_endian (drop 2 bytes))
 -- the first k branches that bytes hold, 6 bytes each
 abbrev pub branch_list : ℕ → List ℕ → List (ℕ × ℕ)
 branch_list zero bytes = []
-branch_list (suc k) bytes = (little_endian (take 2 bytes), little_endian (take 4 (drop 2 bytes))) ∷ branch_list k (drop 6 bytes)
+branch_list (suc k) bytes = branch_of (take 6 bytes) ∷ branch_list k (drop 6 bytes)
 
 -- the branches that a borrowed run of bytes holds
 abbrev pub branches_in : Bor (List ℕ) → List (ℕ × ℕ)

@@ -1,5 +1,5 @@
 -- The records of a file: its header, a state, a choice. What is missing is None.
-use Rattle.std.specs.Prelude.{◌≡◌, ℕ, ◌-◌, ◌^◌, ◌≤◌, Bool, cond, not, List, ℤ, Ok, Err, Option, ◌==◌, bit_and, nat_lt, nat_le}
+use Rattle.std.specs.Prelude.{◌≡◌, ℕ, ◌-◌, ◌^◌, ◌≤◌, Bool, cond, not, List, ℤ, Ok, Err, Option, ◌==◌, bit_and, nat_le}
 use Rattle.std.specs.Option.{option_map}
 use Rattle.modelfile.specs.Results.{Read, and_then, of_record, when_set, text_of}
 use Rattle.modelfile.specs.Bytes.{number, signed, text, branches, branches_in}
@@ -44,13 +44,11 @@ bit_map every file p =
 -- a bit map of two bits, the fields that it names, and the number of states
 abbrev pub header : List ℕ → ℕ → Read HeaderFields RecordFault
 header file p =
-    and_then (of_record (number 1 file p)) (λ m.
-    cond (nat_lt m.0 4)
-    (and_then (of_record (when_set (has_bit 1 m.0) m.1 (number 4 file m.1))) (λ d.
+    and_then (bit_map 3 file p) (λ m.
+    and_then (of_record (when_set (has_bit 1 m.0) m.1 (number 4 file m.1))) (λ d.
     and_then (of_record (when_set (has_bit 2 m.0) d.1 (text file d.1))) (λ t.
     and_then (of_record (number 2 file t.1)) (λ n.
     Ok (record { denominator = d.0; name = t.0; states = n.0 }, n.1)))))
-    (Err (UnknownBit p)))
 
 -- the number of a state's choices
 abbrev pub state : List ℕ → ℕ → Read ℕ RecordFault
@@ -59,13 +57,11 @@ state file p = of_record (number 1 file p)
 -- a bit map of three bits and the fields that it names
 abbrev pub choice : List ℕ → ℕ → Read ChoiceFields RecordFault
 choice file p =
-    and_then (of_record (number 1 file p)) (λ m.
-    cond (nat_lt m.0 8)
-    (and_then (of_record (when_set (has_bit 1 m.0) m.1 (signed file m.1))) (λ r.
+    and_then (bit_map 7 file p) (λ m.
+    and_then (of_record (when_set (has_bit 1 m.0) m.1 (signed file m.1))) (λ r.
     and_then (of_record (when_set (has_bit 2 m.0) r.1 (branches file r.1))) (λ b.
     and_then (of_record (when_set (has_bit 4 m.0) b.1 (text file b.1))) (λ t.
     Ok (record { reward = r.0; branches = b.0; label = t.0 }, t.1)))))
-    (Err (UnknownBit p)))
 
 -- what a record that the reader hands out holds, with its texts and branches read where they stand in the file
 abbrev pub header_of : Header → HeaderFields

@@ -6,7 +6,7 @@ ghost use Rattle.modelfile.specs.Reading.{ReadsOn};
 
 use crate::fault::ByteFault;
 
-// A place in a file.
+// A place in a file. The whole file and a place, and not the rest of it: a refusal names the place.
 #[derive(Clone, Copy)]
 pub(crate) struct ByteCursor<'a> {
     pub(crate) file: &'a [u8],
@@ -71,7 +71,8 @@ impl<'a> ByteCursor<'a> {
         Ok(&self.file[first..self.at])
     }
 
-    // What `read` reads, where `present`.
+    // What `read` reads, where `present`. Not `present.then(|| read(self)).transpose()`, which was tried: the borrow checker does not cover
+    // the cursor that such a closure borrows.
     pub(crate) fn optional<T, F: FnOnce(&mut ByteCursor<'a>) -> Result<T, ByteFault>>(
         &mut self,
         present: bool,

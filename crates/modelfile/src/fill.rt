@@ -12,7 +12,7 @@ use sources::{ChoiceRow, StateRow};
 fn put<T: Copy>(list: &mut [T], at: usize, row: T)
     ensures { list.new ≡ slice_set list.old at row }
 {
-    // not by `get_mut`: its contract says nothing of what the list ends as
+    // not by `get_mut`, which was tried: nothing is known then of what the list ends as
     if at < list.len() {
         list[at] = row;
     }

@@ -6,7 +6,8 @@ use crate::cursor::ByteCursor;
 use crate::fault::RecordFault;
 use crate::record::{Choice, Header, State};
 
-// The bits of a header's bit map: which of these two fields it has.
+// The bits of a header's bit map: which of these two fields it has. Numbers, and not a type of flags: a map is read as a number, and each
+// bit is asked once.
 const DENOMINATOR: u32 = 1;
 
 const NAME: u32 = 2;

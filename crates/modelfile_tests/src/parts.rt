@@ -46,7 +46,7 @@ pub(crate) fn counts(denominator: u32, states: u32, choices: u32, branches: u32)
     }
 }
 
-// What a load reports; 0 where it refuses nothing.
+// What a load reports; 0 where it refuses nothing, and no Option, since the tests keep the values that they had.
 pub(crate) fn noticed(read: Result<Loaded, FileFault>) -> FileNotice {
     match read {
         Ok(_) => at(0, None),

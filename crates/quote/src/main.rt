@@ -6,7 +6,7 @@ use std::fs::File;
 use std::io;
 use std::io::{BufRead, BufReader, ErrorKind, Read, Write};
 
-// one more than a model file may have
+// one more than a model file may have; that limit is the reader's own, which refuses what is longer
 const ENOUGH: u64 = 65_537;
 
 fn main(rt: HostRuntime) -> io::Result<()> {

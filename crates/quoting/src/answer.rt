@@ -81,7 +81,7 @@ fn plan(heap: Global, engine: &mut Engine, line: u64) -> Result<String, AllocErr
     }
 }
 
-// How many states there are.
+// How many states there are; 0 where the engine is idle, as its plan has no choices then.
 fn states(engine: &Engine) -> usize
     ensures { result ≡ states_of (state_of engine.now) }
 {

@@ -12,8 +12,8 @@ use engine::Engine;
 use sources::{ChoiceRow, StateRow};
 use std::alloc::{AllocError, Global};
 
-// A file with more rows than these is refused with the number 26. They are limits of a whole file, and not those of a table,
-// which say how many choices a state and how many branches a choice may have.
+// A file with more rows than these is refused with the number 26. As many states as a table may have; how many choices and branches a
+// whole file may have is a limit of its own, where a table's limits say how many a state and a choice may have.
 pub(crate) const MOST_STATES: usize = 256;
 
 const MOST_CHOICES: usize = 1024;
@@ -25,6 +25,7 @@ impl Console {
     pub fn open(heap: Global, file: &[u8]) -> Result<(String, Option<Console>), AllocError>
         ensures { IfOk result (λ p. Opened file.now (string_bytes p.0) p.1) }
     {
+        // lists with all their places, since a file is read into the places of its caller
         let mut states = vec![in heap; StateRow::default(); MOST_STATES]?;
         let mut choices = vec![in heap; ChoiceRow::default(); MOST_CHOICES]?;
         let mut branches = vec![in heap; (0, 0); MOST_BRANCHES]?;
@@ -46,6 +47,7 @@ fn begin(heap: Global, engine: Engine) -> Result<(String, Option<Console>), Allo
             let line = loaded_line(heap, states, components)?;
             Ok((line, Some(Console { engine, lines: 0 })))
         }
+        // no line of a command: an open is refused for its table or for want of memory, and these lines name none
         Err(refusal) => Ok((refused_call(heap, 0, refusal)?, None)),
     }
 }

@@ -22,6 +22,7 @@ fn mixed(sum: i64, number: i64) -> i64 {
     sum.wrapping_mul(31).wrapping_add(number)
 }
 
+// A refusal as an error of this program, which prints its number alone.
 fn refused(refusal: Refusal) -> anyhow::Error {
     let number = refusal.notice().number;
     anyhow::anyhow!("refused with {number}")
@@ -48,6 +49,8 @@ fn time<P: Fn(&mut Engine) -> anyhow::Result<()>, R: FnMut(&mut Engine) -> anyho
     }
     Ok(work)
 }
+
+// The runtime, the engine and how many rounds stay three arguments below: quotes go another number of rounds, and the engine outlives what is timed.
 
 // Loads that were accepted.
 fn time_loads<S: Source>(
@@ -126,6 +129,7 @@ fn time_quotes(
 
 // A checksum of the plan.
 fn plan_sum(engine: &mut Engine) -> anyhow::Result<i64> {
+    // an array: the caller's own list, as long as a table may have states
     let mut list = [0u32; 256];
     engine.plan(&mut list).map_err(refused)?;
     Ok(

@@ -26,4 +26,4 @@ pub mod Ends
 pub mod Meaning
 pub mod Models
 pub mod Loops
-pub mod Ranges
+pub mod Halfway

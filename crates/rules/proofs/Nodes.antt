@@ -74,9 +74,6 @@ module _ (T : Table) (law : Lawful T) where
   pub to_component : (k s : ℕ) → in_component T s ≡ true → component_of T s ≡ k → states_of T k s ≡ true
   to_component k s e q = and_from (in_component T s) (eqb (component_of T s) k) e (eq-eqb (component_of T s) k q)
 
-  pub component_number : (k s : ℕ) → s < T.states → states_of T k s ≡ true → k < components T
-  component_number k s h e = component_bound T law k s h e
-
   pub some_state : (k : ℕ) → k < components T → (s : ℕ) × (s < T.states) × (states_of T k s ≡ true)
   some_state k l = let x = (component_law T law).lowest k l in (x.0, x.1.state, x.1.member)
 

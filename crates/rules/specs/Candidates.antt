@@ -5,7 +5,7 @@ use Rattle.components.specs.Nodes.{node_of, component_at}
 use Rattle.components.specs.Depth.{Leaving}
 use Rattle.rules.specs.Choosing.{at_z}
 use Rattle.rules.specs.Setting.{Setting}
-use Rattle.rules.specs.Sweep.{Candidate}
+use Rattle.rules.specs.declared.exit.Candidate.{Candidate}
 use Rattle.rules.specs.declared.exit.Exit.{Exit}
 use Rattle.rules.specs.declared.exit.Exit.TheVariants.{Stay, Leave}
 

@@ -2,8 +2,8 @@ pub mod Choosing
 pub mod Setting
 pub mod Book
 pub mod Refine
-pub mod Sweep
 pub mod Candidates
+pub mod Sweep
 pub mod Layers
 pub mod Play
 pub mod Fit

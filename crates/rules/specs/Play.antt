@@ -17,7 +17,7 @@ enters T p s c = any (T.branches s c) (λ b. p (successor T s c b))
 abbrev pub inward : Table → (ℕ → Bool) → ℕ → Bool
 inward T p s = any (T.choices s) (λ c. inside T s c && enters T p s c)
 
--- the steps from s to t, counted in fewest inside branches
+-- the steps from s to t, counted in fewest inside branches: the least such number up to that of the states, or one more if there is none
 unfoldable pub distance : Table → ℕ → ℕ → ℕ
 distance T t s = level T.states (λ u. nat_eq u t) (inward T) s
 

@@ -1,4 +1,4 @@
--- A refine: steps of value iteration within one component.
+-- A refine: steps of relative value iteration within one component, damped by a half so that periodic components settle too.
 use Rattle.std.specs.Prelude.{ℕ, zero, suc, Bool, true, false, cond, not, ◌&&◌, ◌||◌, ℤ, pos, ◌+ℤ◌, ◌-ℤ◌, ◌*ℤ◌, int_le, int_lt, nat_le, slice_set, unsigned_abs}
 use Rattle.horizon.specs.Means.{Rounding, round_down, round_up, mean}
 use Rattle.components.specs.Below.{every, first}

@@ -13,7 +13,7 @@ pub data Change : Type 0 where
   sweeping : ℕ → Change
   closing : Change
 
--- what there is no component for stays as it is
+-- a refine of a component that the table lacks changes nothing
 unfoldable pub changed : Setting → Change → Book → Book
 changed M (refines k n width) B = cond (nat_lt k (components M.table)) (refine M k n width B).book B
 changed M (sweeping n) B = (sweeps M n B).book

@@ -41,7 +41,7 @@ pub record LeavesFor (M : Setting) (y : ℕ → ℤ) (v t c : ℕ) : Type 0 wher
   -- W × y(v) ≤ Σ weight × y(node of the successor)
   pub gain : (pos M.table.denominator *ℤ y v) ≤ℤ branch_sum_z M.table t c (λ u. y (node_of M.table u))
 
--- an exit of the node v is worth y(v): staying in its component is worth lo
+-- an exit of the node v is worth y(v) at least: staying in its component is worth lo
 abbrev pub WorthOf : Setting → (ℕ → ℤ) → (ℕ → ℤ) → ℕ → Exit → Type 0
 WorthOf M lo y v Stay = (s : ℕ) → s < M.table.states → node_of M.table s ≡ v
     → (in_component M.table s ≡ true) × (y v ≤ℤ lo (component_of M.table s))

@@ -1,15 +1,16 @@
--- A sweep: each node in order takes the best of staying in it and of the choices that leave it.
+-- A sweep: each node in order takes the best of staying in it and of the choices that leave it
+-- (Gauss-Seidel value iteration over the quotient by end components).
 use Rattle.std.specs.Prelude.{ℕ, zero, suc, Bool, true, false, cond, ◌&&◌, List, ℤ, Some, None, Option, ◌==◌, int_lt, slice_set}
-use Rattle.horizon.specs.Means.{Rounding, round_down, round_up, mean}
+use Rattle.horizon.specs.Means.{Rounding, round_down, round_up}
 use Rattle.components.specs.Below.{every}
 use Rattle.components.specs.Inside.{inside}
 use Rattle.components.specs.Nodes.{nodes, node_of, component_at}
 use Rattle.rules.specs.Choosing.{eq_z, at_z}
 use Rattle.rules.specs.Setting.{Setting}
 use Rattle.rules.specs.Book.{Book, exit_at}
+use Rattle.rules.specs.Candidates.{stay_candidate, leave_candidate, mean_of}
 pub use Rattle.rules.specs.declared.exit.Candidate.{Candidate}
 use Rattle.rules.specs.declared.exit.Exit.{Exit}
-use Rattle.rules.specs.declared.exit.Exit.TheVariants.{Stay, Leave}
 
 -- one more candidate: it is the best so far if it is the first, or larger than the best before it
 abbrev pub better : Option Candidate → Candidate → Option Candidate
@@ -21,7 +22,7 @@ abbrev pub over_choices : Setting → (ℕ → ℕ → ℤ) → ℕ → ℕ → 
 over_choices M f s zero a = a
 over_choices M f s (suc n) a =
     let b = over_choices M f s n a in
-    cond (inside M.table s n) b (better b (record { value = f s n; exit = Leave s n }))
+    cond (inside M.table s n) b (better b (leave_candidate f s n))
 
 -- over those of the states of node v among the first n states
 abbrev pub over_states : Setting → (ℕ → ℕ → ℤ) → ℕ → ℕ → Option Candidate → Option Candidate
@@ -32,12 +33,11 @@ over_states M f v (suc n) a =
 
 -- staying is the first candidate of a component, for its bound; a lone state does not stay
 unfoldable pub staying : Setting → List ℤ → ℕ → Option Candidate
-staying M bounds v = elim (component_at M.table v) [ None ↦ None | Some i ↦ Some (record { value = at_z bounds i; exit = Stay }) ]
+staying M bounds v = elim (component_at M.table v) [ None ↦ None | Some i ↦ Some (stay_candidate bounds i) ]
 
 -- the first of the largest candidates of node v: to stay, then the leaving choices by state and choice
 unfoldable pub best_of : Setting → Rounding → List ℤ → List ℤ → ℕ → Option Candidate
-best_of M rounds bounds values v =
-    over_states M (λ s c. mean rounds M.table s c (λ u. at_z values (node_of M.table u))) v M.table.states (staying M bounds v)
+best_of M rounds bounds values v = over_states M (mean_of M rounds values) v M.table.states (staying M bounds v)
 
 -- the upper side has hi and x, the lower side lo and y
 abbrev pub best_x : Setting → ℕ → Book → Option Candidate

@@ -1,27 +1,17 @@
 -- Worked models, whose results follow from the rules by computation. Branches are written (successor, weight).
-use Rattle.std.specs.Prelude.{◌≡◌, ℕ, List, [], ◌∷◌, map, length, get_or, ℤ, pos, neg_ℤ, slice_index_or}
+use Rattle.std.specs.Prelude.{◌≡◌, ℕ, List, [], ◌∷◌, map, ℤ, pos, neg_ℤ}
 use Rattle.std.specs.List.{range_with_len, AllByRecursion}
 use Rattle.table.specs.Table.{Table}
 use Rattle.table.specs.Limits.{Lawful}
 use Rattle.components.specs.Nodes.{components}
 use Rattle.components.specs.Law.{Lone}
+use Rattle.components.specs.Worked.{rows}
 use Rattle.rules.specs.Setting.{setting_of}
 use Rattle.rules.specs.Book.{Book, start}
 use Rattle.rules.specs.Refine.{Refined, refine}
 use Rattle.rules.specs.Sweep.{Swept, sweeps}
 use Rattle.rules.specs.Play.{play}
 use Rattle.rules.specs.Promises.{upper_at, lower_at}
-
--- a table from its states, each a list of choices: reward and branches
-abbrev pub rows : ℕ → List (List (ℤ × List (ℕ × ℕ))) → Table
-rows w states = record {
-  states = length states;
-  denominator = w;
-  choices = λ s. length (slice_index_or states s []);
-  reward = λ s c. (get_or {A = ℤ × List (ℕ × ℕ)} (slice_index_or states s []) c (pos 0, [])).0;
-  branches = λ s c. length (get_or {A = ℤ × List (ℕ × ℕ)} (slice_index_or states s []) c (pos 0, [])).1;
-  branch = λ s c b. slice_index_or (get_or {A = ℤ × List (ℕ × ℕ)} (slice_index_or states s []) c (pos 0, [])).1 b (0, 0);
-}
 
 -- one state that loops with reward 3
 unfoldable pub model_a : Table

@@ -1,6 +1,6 @@
 // The rules of refine, sweep and plan as definitions, and what every book that they lead to keeps.
 // Four functions below stand for one theorem each: the contract is the theorem, and the answer is the theorem's number.
-// It answers a number since, by a rule of this project, each public function can be turned wrong by an edit that is refused.
+// Each answers a number since, by a rule of this project, each public function can be turned wrong by an edit that is refused.
 #![tactic(auto)]
 
 mod exit;
@@ -15,7 +15,8 @@ ghost use Rattle.rules.specs.Promises.{EveryBook, EverySound};
 pub use exit::{Candidate, Exit};
 
 // For every lawful table, scale and cap, and every list of refines, sweeps and closes from the start:
-// no strategy beats the upper bounds, the plan of that moment earns the lower bounds, and bounds only tighten until the next close.
+// no strategy beats the upper bounds by more than C, the plan of that moment earns the lower bounds less C,
+// and bounds only tighten until the next close.
 pub fn bounds_hold() -> u8
     ensures number { result ≡ 1 }
     ensures theorem { EveryBook }

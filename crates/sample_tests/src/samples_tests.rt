@@ -1,4 +1,4 @@
-use decomposition::Parts;
+use decomposition::{Parts, decompose};
 use model::Model;
 use samples::{Weights, chain, exits, export, largest};
 use sources::Band;
@@ -37,5 +37,16 @@ fn a_model_is_taken_apart(rt: HostRuntime) -> Result<(), Fail> {
     assert_eq!(rt; (parts.nodes(), parts.components()), (1, 1));
     assert_eq!(rt; (parts.node_of(4), parts.component_at(0)), (0, Some(0)));
     assert_eq!(rt; parts.is_inside(4, 1), true);
+    Ok(())
+}
+
+// One component of all states; and a component beside 240 lone states.
+#[test]
+fn large_tables_are_taken_apart(rt: HostRuntime) -> Result<(), Fail> {
+    let heap = rt.alloc();
+    let parts = decompose(heap, &largest(heap, 0, Weights::Even)?)?;
+    assert_eq!(rt; (parts.nodes(), parts.components()), (1, 1));
+    let parts = decompose(heap, &exits(heap, 10_000, Weights::Uneven)?)?;
+    assert_eq!(rt; (parts.nodes(), parts.components()), (241, 1));
     Ok(())
 }

@@ -1,11 +1,12 @@
 -- The three tables keep all limits, and lists that hold all states of one stand for it.
 use Rattle.std.proofs.Common.{◌≡◌, ℕ, ◌*◌, ◌+◌, ◌<◌, cond, eqb, vec_items, arith}
+use Rattle.sources.specs.Rows.{owned_table}
 use Rattle.sources.specs.declared.owned.OwnedList.{OwnedList}
 use Rattle.table.specs.Limits.{Lawful}
 use Rattle.model.specs.Copy.{StatesCopied}
 use Rattle.model.proofs.Copies.{copied_rows}
 use Rattle.samples.specs.declared.tables.Weights.{Weights}
-use Rattle.samples.specs.Tables.{numbered, scattered, leaving, stepping, largest_table, exits_table, chain_table, table_in}
+use Rattle.samples.specs.Tables.{numbered, scattered, leaving, stepping, largest_table, exits_table, chain_table}
 use Rattle.samples.proofs.Numbered.{zero_outside, numbered_lawful}
 use Rattle.samples.proofs.Fair.{fair_scattered, fair_leaving, fair_stepping}
 
@@ -20,6 +21,6 @@ chain_lawful spread h = numbered_lawful spread (λ s. cond (eqb s 255) 1 2) step
 
 pub stands : (spread : ℕ) (count : ℕ → ℕ) (branch : ℕ → ℕ → ℕ × ℕ) (o : OwnedList) → Lawful (numbered spread count branch)
     → o.denominator ≡ 65536 → StatesCopied (numbered spread count branch) 256 (vec_items o.states) (vec_items o.choices) (vec_items o.branches)
-    → table_in o ≡ numbered spread count branch
+    → owned_table o ≡ numbered spread count branch
 stands spread count branch o law e p =
     copied_rows (numbered spread count branch) law (zero_outside spread count branch) (vec_items o.states) (vec_items o.choices) (vec_items o.branches) p o.denominator e

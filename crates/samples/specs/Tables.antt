@@ -1,12 +1,10 @@
 -- The three large tables, in numbers: 256 states with 16 choices each, over the denominator 65,536.
 -- Choices are numbered through all states: choice c of state s has the number 16 * s + c.
-use Rattle.std.specs.Prelude.{◌≡◌, ℕ, ◌+◌, ◌*◌, ◌/◌, ◌%◌, ◌<◌, ◌≤◌, cond, List, [], ◌∷◌, ℤ, pos, ◌-ℤ◌, ◌==◌, nat_lt, slice_index_or, vec_items}
+use Rattle.std.specs.Prelude.{◌≡◌, ℕ, ◌+◌, ◌*◌, ◌/◌, ◌%◌, ◌<◌, ◌≤◌, cond, List, [], ◌∷◌, ℤ, pos, ◌-ℤ◌, ◌==◌, nat_lt, slice_index_or}
 use Rattle.table.specs.Table.{Table}
 use Rattle.model.specs.Copy.{ChoicesCopied, StatesCopied}
 use Rattle.sources.specs.declared.list.StateRow.{StateRow}
 use Rattle.sources.specs.declared.list.ChoiceRow.{ChoiceRow}
-use Rattle.sources.specs.Rows.{list_table}
-use Rattle.sources.specs.declared.owned.OwnedList.{OwnedList}
 use Rattle.samples.specs.declared.tables.Weights.{Weights}
 use Rattle.samples.specs.declared.tables.Weights.TheVariants.{Even, Uneven}
 
@@ -66,11 +64,7 @@ stepping n b = cond (n / 16 == 255) (255, 65536) (cond (b == 0) 0 (n / 16 + 1), 
 abbrev pub chain_table : ℕ → Table
 chain_table spread = numbered spread (λ s. cond (s == 255) 1 2) stepping
 
--- the table that its own lists stand for
-abbrev pub table_in : OwnedList → Table
-table_in o = list_table o.denominator (vec_items o.states) (vec_items o.choices) (vec_items o.branches)
-
--- at each of the first k places of a choice only what f has there may be given
+-- whatever `given` allows at the first k places of a choice is what f has there
 abbrev pub Gives : ℕ → (ℕ → ℕ × ℕ → Type 0) → (ℕ → ℕ × ℕ) → Type 0
 Gives k given f = (b : ℕ) (r : ℕ × ℕ) → b < k → given b r → r ≡ f b
 

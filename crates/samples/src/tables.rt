@@ -1,8 +1,9 @@
 ghost use Rattle.std.specs.Prelude.{◌≡◌, ℕ, ◌+◌, ◌*◌, ◌<◌, ◌≤◌, ◌++◌, map, vec_len, OnOk, IfOk};
 ghost use Rattle.std.specs.List.{range_with_len};
 ghost use Rattle.table.specs.Limits.{Lawful};
+ghost use Rattle.sources.specs.Rows.{owned_table};
 ghost use Rattle.samples.specs.Counts.{HasCounts};
-ghost use Rattle.samples.specs.Tables.{reward_at, share, largest_table, onward, exits_table, chain_table, table_in, Gives, ChoicesAdded, StatesAdded};
+ghost use Rattle.samples.specs.Tables.{reward_at, share, largest_table, onward, exits_table, chain_table, Gives, ChoicesAdded, StatesAdded};
 
 use sources::{ChoiceRow, OwnedList, StateRow};
 use std::alloc::{AllocError, Global};
@@ -56,6 +57,8 @@ fn empty(heap: Global) -> OwnedList
     }
 }
 
+// What adds branches, choices and states stands beside the copying of a model: that asks a source for each row, these make it from its number.
+
 // Adds the branches of a choice.
 fn add_branches<F: Fn(u32, u32) -> (u32, u32)>(
     branches: &mut Vec<(u32, u32)>,
@@ -67,6 +70,7 @@ fn add_branches<F: Fn(u32, u32) -> (u32, u32)>(
     ensures items { OnOk result ((f : ℕ → ℕ × ℕ) → Gives count (F.post branch.now choice) f → branches.new.items ≡ branches.old.items ++ map f (range_with_len 0 count)) }
     ensures long { OnOk result (vec_len branches.new ≡ vec_len branches.old + count) }
 {
+    // a loop: over `extend` by a map, which was tried, the search did not show that the map may be called, nor what the list holds then
     for place in 0..count {
         branches.push(branch(choice, place))?;
     }
@@ -138,10 +142,11 @@ fn add_states<F: Fn(u32, u32) -> (u32, u32)>(
 }
 
 // One component: each choice has eight branches, scattered over all states. Rewards lie between -spread and spread.
+// No contract says that it is one component; `sample_tests` counts it.
 #[tactic(auto, using(crate::proofs::Large::largest_lawful))]
 pub fn largest(heap: Global, spread: u16, weights: Weights) -> Result<OwnedList, AllocError>
     ensures counts { IfOk result (HasCounts 256 4096 32768) }
-    ensures table { IfOk result (λ o. table_in o ≡ largest_table spread weights) }
+    ensures table { IfOk result (λ o. owned_table o ≡ largest_table spread weights) }
     ensures lawful { Lawful (largest_table spread weights) }
 {
     let mut table = empty(heap);
@@ -152,10 +157,10 @@ pub fn largest(heap: Global, spread: u16, weights: Weights) -> Result<OwnedList,
 }
 
 // 240 lone states and a component of 16 states. Each choice of a lone state leaves: to the next state and to seven others
-// further on, around the end.
+// further on, around the end. No contract says how many nodes and components there are; `sample_tests` counts them.
 pub fn exits(heap: Global, spread: u16, weights: Weights) -> Result<OwnedList, AllocError>
     ensures counts { IfOk result (HasCounts 256 4096 32768) }
-    ensures table { IfOk result (λ o. table_in o ≡ exits_table spread weights) }
+    ensures table { IfOk result (λ o. owned_table o ≡ exits_table spread weights) }
     ensures lawful { Lawful (exits_table spread weights) }
 {
     let mut table = empty(heap);
@@ -178,11 +183,12 @@ fn onward(choice: u32, place: u32) -> u32
 }
 
 // Each choice leads to the first state and to the next one, in the last state to itself alone: a pass of the
-// decomposition drops the choices of one state.
+// decomposition drops the choices of one state. No contract says so; the output of `bench` shows where the passes end:
+// at 256 nodes, one of them a component.
 #[tactic(auto, using(crate::proofs::Large::chain_lawful))]
 pub fn chain(heap: Global, spread: u16) -> Result<OwnedList, AllocError>
     ensures counts { IfOk result (HasCounts 256 4096 8176) }
-    ensures table { IfOk result (λ o. table_in o ≡ chain_table spread) }
+    ensures table { IfOk result (λ o. owned_table o ≡ chain_table spread) }
     ensures lawful { Lawful (chain_table spread) }
 {
     let last = STATES - 1;

@@ -30,7 +30,7 @@ fn run(rt: &HostRuntime) -> anyhow::Result<()> {
     Ok(())
 }
 
-// A case of the kind that its letter names. A rule of this project: letters are matched as char literals in one small function.
+// A case of the kind that its letter names. One match over the letters: each kind of case is printed in its own way.
 fn print_case<'a>(rt: &HostRuntime, letter: char, file: &mut CaseFile<'a>) -> anyhow::Result<()> {
     match letter {
         'Q' => print_run(rt, file),

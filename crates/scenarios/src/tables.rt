@@ -4,7 +4,8 @@ use engine::Call;
 use sources::{ChoiceRow, OwnedList, StateRow};
 use std::alloc::Global;
 
-// A list: how many items, then each.
+// A list: how many items, then each. Not `.map(|_| read(file)).try_collect(heap)`, which was tried: the borrow checker does not cover the file
+// that such a closure borrows.
 fn read_list<'a, T: Drop, F: FnMut(&mut CaseFile<'a>) -> anyhow::Result<T>>(
     heap: Global,
     file: &mut CaseFile<'a>,
@@ -57,7 +58,7 @@ pub(crate) fn read_calls<'a>(
     read_list(heap, file, |file| read_call(heap, file))
 }
 
-// A call by its letter: here too letters are matched as char literals in one small function.
+// A call by its letter. One match over the letters: each call has its own arguments.
 fn read_call<'a>(heap: Global, file: &mut CaseFile<'a>) -> anyhow::Result<Call<OwnedList>> {
     match char::from(file.byte()?) {
         'L' => Ok(Call::Load(read_table(heap, file)?)),

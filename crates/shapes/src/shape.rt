@@ -4,6 +4,7 @@ use sources::{ChoiceRow, List, StateRow};
 use std::alloc::{AllocError, Global};
 
 // A table without rewards: how many choices each state has, how many branches each choice has, and what the branches are.
+// Three lists, as they are written below: no row names a place, and each run begins where the one before ends.
 #[derive(Clone, Copy)]
 pub(crate) struct Shape<'a> {
     pub(crate) name: &'a str,
@@ -13,7 +14,7 @@ pub(crate) struct Shape<'a> {
     pub(crate) branches: &'a [(u32, u32)],
 }
 
-// A row for each count. Its run begins where the one before ends: `scan` would carry the same sum, and a push that fails could not end it.
+// A row for each count. Its run begins where the one before ends: `scan` would carry the same sum in a closure.
 fn rows<T: Drop, F: Fn(u32, u32) -> T>(
     heap: Global,
     counts: &[u32],

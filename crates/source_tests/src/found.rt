@@ -1,7 +1,7 @@
 use sources::{ChoiceRow, List, StateRow};
 use table::{Notice, Source, check};
 
-// What a check reports; all 0 where it reports nothing.
+// What a check reports; all 0 where it reports nothing, and no Option, since the tests keep the values that they had.
 pub(crate) fn found<S: Source>(source: &S) -> Notice {
     match check(source) {
         Ok(()) => Notice::default(),
@@ -18,6 +18,7 @@ pub(crate) fn at(number: u32, state: u32, choice: u32, branch: u32) -> Notice {
     }
 }
 
+// This and the next stand in `modelfile_tests` too: a crate of test helpers would be longer than both.
 pub(crate) fn state(first: u32, count: u32) -> StateRow {
     StateRow { first, count }
 }

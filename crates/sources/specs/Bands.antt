@@ -36,7 +36,7 @@ moves_at b s zero = holding b s
 moves_at b s (suc zero) = (b, 4) ∷ []
 moves_at b s (suc (suc k)) = []
 
--- these of the states that the band has
+-- the same at the states that the band has, none elsewhere
 abbrev pub band_moves : ℕ → ℕ → ℕ → ℕ → ℕ → List (ℕ × ℕ)
 band_moves b h c s k = cond (nat_lt s (band_states b h c)) (moves_at b s k) []
 

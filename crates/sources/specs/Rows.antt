@@ -1,8 +1,9 @@
--- The table that a caller's three lists stand for.
-use Rattle.std.specs.Prelude.{ℕ, ◌+◌, min, cond, List, length, pos, nat_le, nat_lt, slice_index_or}
+-- The table that three lists stand for, a caller's or those of an `OwnedList`.
+use Rattle.std.specs.Prelude.{ℕ, ◌+◌, min, cond, List, length, pos, nat_le, nat_lt, slice_index_or, vec_items}
 use Rattle.table.specs.Table.{Table}
 use Rattle.sources.specs.declared.list.StateRow.{StateRow}
 use Rattle.sources.specs.declared.list.ChoiceRow.{ChoiceRow}
+use Rattle.sources.specs.declared.owned.OwnedList.{OwnedList}
 
 -- how many places a run of `count` places from `first` on has in a list: none where it passes the list's end
 abbrev pub run : ℕ → ℕ → ℕ → ℕ
@@ -49,3 +50,7 @@ list_table W states choices branches = record {
   branches = branch_count states choices branches;
   branch = branch_at states choices branches;
 }
+
+-- the same of the lists that an `OwnedList` owns
+abbrev pub owned_table : OwnedList → Table
+owned_table o = list_table o.denominator (vec_items o.states) (vec_items o.choices) (vec_items o.branches)

@@ -11,7 +11,8 @@ const MOST_HOLDING: u32 = 7_000;
 
 const MOST_RECENTRING: u32 = 1_000_000;
 
-// A rehedging band: its half-width, the cost of holding one step off the centre, and the cost of recentring.
+// A rehedging band, whose states have two choices: 0 holds and 1 recentres, numbers since those of a table are.
+// Its half-width, the cost of holding one step off the centre, and the cost of recentring.
 #[derive(Clone, Copy, PartialEq, Eq, Debug)]
 pub struct Band {
     half: u32,

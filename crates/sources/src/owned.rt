@@ -1,5 +1,5 @@
 ghost use Rattle.std.specs.Prelude.{◌≡◌};
-ghost use Rattle.sources.specs.Rows.{list_table};
+ghost use Rattle.sources.specs.Rows.{owned_table};
 
 use crate::list::{ChoiceRow, List, StateRow};
 use table::Source;
@@ -32,7 +32,7 @@ impl OwnedList {
 
 // Each question goes to the list that is lent: a trait has no way to pass all of them on at once.
 impl Source for OwnedList {
-    ghost table = { λ o. list_table o.denominator o.states.items o.choices.items o.branches.items };
+    ghost table = { owned_table };
 
     fn states(&self) -> u32 {
         self.list().states()

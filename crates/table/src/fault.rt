@@ -49,7 +49,8 @@ pub enum Fault {
     },
 }
 
-// A fault as it is reported: its number and its place, with 0 for what was not reached.
+// A fault as it is reported: its number and its place, with 0 for what was not reached. Not an Option of a place: a report is
+// these four numbers, and by the rules it has a 0 where there is nothing to name.
 #[derive(Clone, Copy, PartialEq, Eq, Default, Debug)]
 pub struct Notice {
     pub number: u32,

@@ -3,6 +3,7 @@ ghost use Rattle.table.specs.Table.{Table, ZeroOutside};
 
 // A source stands for one table, which may break the limits, and answers six questions from it.
 // No question is refused, and asking twice gives the same answer and alters nothing.
+// A state, a choice and a branch travel together, and are no type: each question asks of another one, by its numbers.
 pub trait Source {
     ghost table: { Self → Table };
 

@@ -31,6 +31,7 @@ fn taken_apart<S: Source>(heap: Global, source: &S) -> Result<(Model, Parts), Lo
     Ok((model, parts))
 }
 
+// A refusal, by its number alone.
 fn refused(rt: &HostRuntime, fault: LoadFault) -> io::Result<()> {
     let number = fault.notice().number;
     println!(rt; "   refused: {number}")

@@ -1,4 +1,4 @@
-// One trading day of one programme, from its table to its bounds, every step printed.
+// One day's table, made, checked and taken apart, every step printed.
 #![tactic(auto)]
 
 mod apart;

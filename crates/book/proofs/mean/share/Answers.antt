@@ -1,6 +1,6 @@
 use Rattle.std.proofs.Common.{◌^◌, pos, ◌*ℤ◌, arith, w64, SFits, rules}
 use Rattle.std.proofs.lemmas.Int.{ints, to_z-of_z}
-use Rattle.book.proofs.Rows.{scaled}
+use Rattle.book.proofs.RunSums.{scaled}
 use Rattle.book.proofs.mean.share.Goals as goal
 
 pub returns-clause-within : goal.returns-clause-within

@@ -3,8 +3,9 @@ use Rattle.std.proofs.lemmas.Int.{ints, to_z-of_z}
 use Rattle.std.proofs.lemmas.List.{length-map}
 use Rattle.std.proofs.lemmas.Iterator.{YieldsList-from_slice, YieldsList-from_map}
 use Rattle.std.proofs.lemmas.Iterator.Adapters.{serves_from_places}
-use Rattle.book.specs.Rows.{run_sum, Within}
-use Rattle.book.proofs.Rows.{branch_fits, along, terms, terms_sum, terms_few, part_sum, part_small, total_is}
+use Rattle.book.specs.Bounded.{Bounded}
+use Rattle.book.specs.RunSums.{run_sum}
+use Rattle.book.proofs.RunSums.{branch_fits, along, terms, terms_sum, terms_few, part_sum, part_small, total_is}
 use Rattle.book.proofs.mean.total.Goals as goal
 
 pub sum-requires-clause-can : goal.sum-requires-clause-can
@@ -35,7 +36,7 @@ module _ (c : goal.After-sum) where
       ∙ terms_sum run values (terms run values) [] (sym (append-nil (terms run values)))
       ∙ ap (λ (k : ℕ). part_sum run values k) (length-map run (λ x. pos x.1 *ℤ get_or values x.0 (pos 0)))
 
-  within : Within (2 ^ 62) c.sum.result
+  within : Bounded (2 ^ 62) c.sum.result
   within =
       let e = sum_is in
       let b = part_small c.args.run.now c.args.values.now c.requires.inside c.requires.light c.requires.small (length c.args.run.now) (omega arith) in

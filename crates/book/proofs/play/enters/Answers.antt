@@ -1,26 +1,22 @@
-use Rattle.std.proofs.Common.{◌≡◌, ℕ, zero, suc, ◌<◌, ◌≤◌, Bool, true, false, ◌||◌, List, [], ◌∷◌, length, get_or, take, sym, refl, ap, ◌∙◌, ap₂, arith, rules, tests}
+use Rattle.std.proofs.Common.{◌≡◌, ℕ, zero, suc, ◌+◌, ◌<◌, ◌≤◌, Bool, ◌||◌, List, length, get_or, take, sym, refl, ap, ◌∙◌, arith, rules, tests}
 use Rattle.std.specs.List.{list_any}
-use Rattle.std.proofs.Math.Seq.{take-suc}
 use Rattle.std.proofs.lemmas.List.{get_or_default, take_all}
-use Rattle.std.proofs.lemmas.List.Folds.{list_any-append}
+use Rattle.std.proofs.lemmas.List.Folds.{list_any_more}
 use Rattle.std.proofs.lemmas.Iterator.{YieldsList-from_slice}
 use Rattle.std.proofs.lemmas.Iterator.Adapters.{serves_from_places}
 use Rattle.std.proofs.lemmas.Iterator.Search.{any_from_yields_List}
 use Rattle.components.specs.Below.{any}
 use Rattle.book.specs.Plays.{has_mark}
-use Rattle.book.specs.Rows.{place_at}
+use Rattle.book.specs.RunSums.{place_at}
 use Rattle.book.proofs.play.enters.Goals as goal
-
-or_end : (b : Bool) → (b || false) ≡ b
-or_end true = refl
-or_end false = refl
 
 -- a test of the first n elements, place by place
 any_below : {X : Type 0} (test : X → Bool) (xs : List X) (d : X) (n : ℕ) → n ≤ length xs → list_any test (take n xs) ≡ any n (λ b. test (get_or xs b d))
 any_below test xs d zero h = refl
 any_below test xs d (suc n) h =
-    ap (list_any test) (take-suc xs n d (omega arith)) ∙ list_any-append test (take n xs) (get_or xs n d ∷ [])
-    ∙ ap₂ (λ (a b : Bool). a || b) (any_below test xs d n (omega arith)) (or_end (test (get_or xs n d)))
+    let q : suc n ≡ n + 1 = omega arith in
+    ap (λ (i : ℕ). list_any test (take i xs)) q ∙ list_any_more test xs n d (omega arith)
+    ∙ ap (λ (b : Bool). b || test (get_or xs n d)) (any_below test xs d n (omega arith))
 
 -- each place of the run is one of the marks
 marked : (run : List (ℕ × ℕ)) (size : ℕ) → ((b : ℕ) → b < length run → place_at run b < size)

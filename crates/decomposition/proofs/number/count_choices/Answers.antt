@@ -4,9 +4,10 @@ use Rattle.std.proofs.lemmas.Iterator.{YieldsList-from_range, YieldsList-from_ma
 use Rattle.std.proofs.lemmas.Iterator.Consumers.{YieldsList-at, sum_by_from_yields_List, fits_by_from_yields_list}
 use Rattle.table.specs.Sums.{sum_n}
 use Rattle.table.specs.Table.{Table}
+use Rattle.table.proofs.Walks.{sum_range}
 use Rattle.model.specs.Held.{table_of}
 use Rattle.model.proofs.Unbroken.{model_lawful}
-use Rattle.decomposition.proofs.Searches.{sum_counted, few_counted}
+use Rattle.decomposition.proofs.Searches.{few_counted}
 use Rattle.decomposition.proofs.number.count_choices.Goals as goal
 
 pub sum-requires-clause-fits : goal.sum-requires-clause-fits
@@ -25,4 +26,4 @@ returns c =
     let whole : n - 0 ≡ n = omega arith in
     sum_by_from_yields_List T.choices (range_with_len 0 n) c.map.result c.sum.result c.sum.ensures.ran
     (YieldsList-from_map _ T.choices (YieldsList-at c.map.ensures.source (YieldsList-from_range 0 n n refl whole)) c.map.ensures.closure (λ x r q k. search (rules, tests)))
-    ∙ sum_counted n T.choices ∙ ap (λ (k : ℕ). sum_n k T.choices) c.states.ensures.value
+    ∙ sum_range T.choices n ∙ ap (λ (k : ℕ). sum_n k T.choices) c.states.ensures.value

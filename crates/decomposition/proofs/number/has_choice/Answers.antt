@@ -2,7 +2,7 @@ use Rattle.std.proofs.Common.{◌≡◌, ℕ, ◌-◌, Bool, ap, ◌∙◌, refl
 use Rattle.std.proofs.lemmas.Iterator.{YieldsList-from_range}
 use Rattle.std.proofs.lemmas.Iterator.Search.{any_from_yields_List}
 use Rattle.components.specs.Below.{any}
-use Rattle.decomposition.specs.Marking.{flag_at}
+use Rattle.decomposition.specs.Flags.{flag_at}
 use Rattle.decomposition.proofs.Searches.{any_counted}
 use Rattle.decomposition.proofs.number.has_choice.Goals as goal
 

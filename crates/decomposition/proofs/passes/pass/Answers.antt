@@ -1,7 +1,8 @@
 use Rattle.std.proofs.Common.{Bool, List, sym, subst}
 use Rattle.table.specs.Table.{Table}
 use Rattle.components.specs.Inside.{reach}
-use Rattle.decomposition.specs.Marking.{flag_at, Shows}
+use Rattle.decomposition.specs.Flags.{flag_at}
+use Rattle.decomposition.specs.Marking.{Shows}
 use Rattle.decomposition.proofs.Drops.{passed}
 use Rattle.model.specs.Held.{table_of}
 use Rattle.model.proofs.Unbroken.{model_lawful}

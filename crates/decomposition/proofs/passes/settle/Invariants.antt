@@ -1,5 +1,5 @@
 use Rattle.components.specs.Inside.{passes}
-use Rattle.decomposition.specs.Dropping.{Flagged}
+use Rattle.decomposition.specs.Flags.{Flagged}
 use Rattle.model.specs.Held.{table_of}
 use Rattle.decomposition.proofs.passes.settle.Given as goal
 

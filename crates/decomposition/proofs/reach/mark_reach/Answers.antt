@@ -1,5 +1,5 @@
 use Rattle.table.specs.Table.{Table}
-use Rattle.decomposition.specs.Marking.{flag_at}
+use Rattle.decomposition.specs.Flags.{flag_at}
 use Rattle.model.specs.Held.{table_of}
 use Rattle.decomposition.proofs.Marked.{reach_shown}
 use Rattle.decomposition.proofs.reach.mark_reach.Goals as goal

@@ -1,5 +1,5 @@
 use Rattle.decomposition.specs.Bits.{Marks}
-use Rattle.decomposition.specs.Marking.{flag_at}
+use Rattle.decomposition.specs.Flags.{flag_at}
 use Rattle.model.specs.Held.{table_of}
 use Rattle.decomposition.proofs.Marked.{by_choices}
 use Rattle.decomposition.proofs.reach.mark_state.Given as goal

@@ -1,4 +1,4 @@
-use Rattle.decomposition.specs.Marking.{flag_at}
+use Rattle.decomposition.specs.Flags.{flag_at}
 use Rattle.model.specs.Held.{table_of}
 use Rattle.decomposition.proofs.Marked.{Rows}
 use Rattle.decomposition.proofs.reach.mark_steps.Given as goal

@@ -4,7 +4,7 @@ use Rattle.table.specs.Table.{Table}
 use Rattle.history.specs.Calls.{Call}
 use Rattle.history.specs.Answers.{Answer}
 use Rattle.engine.specs.States.{state_of}
-use Rattle.engine.specs.Replays.{answer_of, call_of, Stand, Replayed}
+use Rattle.engine.specs.Replays.{answer_of, call_of, StandsFor, Replayed}
 use Rattle.history.specs.declared.refusal.Refusal.{Refusal}
 use Rattle.engine.specs.declared.call.Call.{Call as CodeCall}
 use Rattle.engine.specs.declared.call.Answer.{Answer as CodeAnswer}
@@ -38,7 +38,7 @@ loop-call-preserved g c =
     ap (λ (y : CodeCall g.row.S.Denot). take i calls ++ (y ∷ [])) c.call-item.is ∙ sym (take_more calls i x (omega (arith, c.loop-call-test.true))) in
     let bs : map answer_of before ++ (answer_of a ∷ []) ≡ map answer_of (vec_items c.push.new.self) = sym (ap (map answer_of) items ∙ map_push answer_of before a) in (
       inv.0 ++ (d ∷ []),
-      subst (λ (l : List (CodeCall g.row.S.Denot)). Stand table l (inv.0 ++ (d ∷ []))) more (stand_more table (take i calls) inv.0 x d inv.1 m.0 refl),
+      subst (λ (l : List (CodeCall g.row.S.Denot)). StandsFor table l (inv.0 ++ (d ∷ []))) more (stand_more table (take i calls) inv.0 x d inv.1 m.0 refl),
       subst (λ (l : List Answer). Replayed T (inv.0 ++ (d ∷ [])) (state_of c.make.new.engine) l) bs
           (replayed_more T inv.0 (state_of c.loop-call.engine) (state_of c.make.new.engine) (map answer_of before) d (answer_of a) inv.2 m.1),
     )

@@ -4,12 +4,13 @@ use Rattle.rules.specs.Choosing.{at}
 use Rattle.rules.specs.Book.{exit_at}
 use Rattle.rules.specs.Play.{play}
 use Rattle.rules.specs.declared.exit.Exit.{Exit}
-use Rattle.book.specs.Plays.{NamesState}
+use Rattle.rules.specs.Fit.{PlanFits}
+use Rattle.rules.specs.Setting.{setting_of}
 use Rattle.book.specs.Desks.{desk_table, desk_book}
 use Rattle.book.proofs.Desks.{no_plan, some_plan}
 use Rattle.book.proofs.Keeps.{keeps_true, keeps_from}
 use Rattle.book.proofs.Lists.{filled}
-use Rattle.book.proofs.Plays.{fit_names, play_written}
+use Rattle.book.proofs.Plays.{play_written}
 use Rattle.book.proofs.desk.Desk.plan.Goals as goal
 
 pub returns-then-list-states : goal.returns-then-list-states
@@ -29,7 +30,7 @@ write_nodes-requires c =
     record {
       recorded = omega (arith, ap (λ (l : List ℕ). length l) c.deref.ensures.value, lr);
       plan = ap (λ (l : List Exit). length l) c.deref-2.ensures.value ∙ lp;
-      named = λ v h. subst (λ (l : List Exit). NamesState T v (exit_at l v)) (sym c.deref-2.ensures.value) (fit_names T v (exit_at (desk_book d).plan v) (K.fit.plan v h));
+      fits = subst (λ (l : List Exit). PlanFits (setting_of T) (exit_at l)) (sym c.deref-2.ensures.value) K.fit.plan;
       distances = omega (arith, c.deref_mut.ensures.len, ld);
       room = omega (arith, c.states.ensures, c.if-list-states.false);
     }

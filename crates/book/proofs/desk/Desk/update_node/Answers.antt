@@ -17,7 +17,7 @@ use Rattle.book.specs.Books.{Kept}
 use Rattle.book.specs.declared.book.Book.{Book}
 use Rattle.book.specs.declared.desk.Desk.{Desk}
 use Rattle.book.specs.Desks.{desk_table, desk_book}
-use Rattle.book.specs.Sweeps.{Small}
+use Rattle.book.specs.Bounded.{AllBounded}
 use Rattle.book.proofs.Keeps.{keeps_true, keeps_from}
 use Rattle.book.proofs.Layouts.{law}
 use Rattle.book.proofs.Settled.{settled, settled_kept}
@@ -29,8 +29,8 @@ use Rattle.book.proofs.desk.Desk.update_node.Goals.{After-settle_plan}
 kept_of : (d : Desk) → Kept (desk_table d) d.book
 kept_of d = keeps_true (desk_table d) d.book d.kept
 
-pub invariant_of-faces : goal.invariant_of-faces
-invariant_of-faces c =
+pub invariant_of-bounds : goal.invariant_of-bounds
+invariant_of-bounds c =
     let d = c.args.self.now in
     let T : Table = desk_table d in
     let b : Book = d.book in
@@ -38,10 +38,10 @@ invariant_of-faces c =
     record {
       hi_size = ap (λ (l : List ℤ). length l) c.deref.ensures.value ∙ K.fit.lengths.hi;
       x_size = ap (λ (l : List ℤ). length l) c.deref-2.ensures.value ∙ K.fit.lengths.x;
-      x_small = subst (λ (l : List ℤ). Small l) (sym c.deref-2.ensures.value) (within_small T (law d.layout) (vec_items b.x) (nodes T) K.fit.lengths.x K.fit.x);
+      x_small = subst (λ (l : List ℤ). AllBounded l) (sym c.deref-2.ensures.value) (within_small T (law d.layout) (vec_items b.x) (nodes T) K.fit.lengths.x K.fit.x);
       lo_size = ap (λ (l : List ℤ). length l) c.deref-3.ensures.value ∙ K.fit.lengths.lo;
       y_size = ap (λ (l : List ℤ). length l) c.deref-4.ensures.value ∙ K.fit.lengths.y;
-      y_small = subst (λ (l : List ℤ). Small l) (sym c.deref-4.ensures.value) (within_small T (law d.layout) (vec_items b.y) (nodes T) K.fit.lengths.y K.fit.y);
+      y_small = subst (λ (l : List ℤ). AllBounded l) (sym c.deref-4.ensures.value) (within_small T (law d.layout) (vec_items b.y) (nodes T) K.fit.lengths.y K.fit.y);
     }
 
 -- what was found and written

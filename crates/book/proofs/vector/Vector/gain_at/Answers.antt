@@ -10,7 +10,7 @@ use Rattle.book.specs.Vectors.{vector_table, numbers}
 use Rattle.table.specs.Table.{Table}
 use Rattle.table.specs.Limits.{Lawful}
 use Rattle.book.specs.Inside.{over_inside, vector_of, choice_or}
-use Rattle.book.proofs.Rows.{natural_is}
+use Rattle.book.proofs.RunSums.{natural_is}
 use Rattle.book.proofs.Insides.{by_choice, attaining}
 use Rattle.book.proofs.Gains.{best_within, is_found, not_missing}
 use Rattle.book.proofs.Layouts.{law}

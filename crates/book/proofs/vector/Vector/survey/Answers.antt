@@ -10,7 +10,7 @@ use Rattle.book.specs.Vectors.{vector_table, numbers}
 use Rattle.book.proofs.Halves.{gain_within, halfway_within}
 use Rattle.book.proofs.Layouts.{law}
 use Rattle.book.proofs.Members.{member_of, Written, written_more, written_all}
-use Rattle.book.proofs.Rows.{natural_is}
+use Rattle.book.proofs.RunSums.{natural_is}
 use Rattle.book.proofs.StepExtremes.{to_state, to_node, highest_more, lowest_more, highest_all, lowest_all}
 use Rattle.book.proofs.Vectors.{numbers_small}
 use Rattle.book.proofs.vector.Vector.survey.Goals as goal

@@ -8,8 +8,8 @@ use Rattle.horizon.specs.SumsLemmas.{weighted_z_cong}
 use Rattle.book.specs.Layouts.{denominator_of, layout_table}
 use Rattle.book.specs.Inside.{vector_of}
 use Rattle.book.specs.Vectors.{vector_table, numbers}
-use Rattle.book.specs.Rows.{Within}
-use Rattle.book.proofs.Rows.{natural_is}
+use Rattle.book.specs.Bounded.{Bounded}
+use Rattle.book.proofs.RunSums.{natural_is}
 use Rattle.book.proofs.Layouts.{law}
 use Rattle.book.proofs.Runs.{run_within, run_light, run_total}
 use Rattle.book.proofs.vector.Vector.worths.Goals as goal
@@ -28,7 +28,7 @@ total-sum-requires c =
     }
 
 -- the reward of a choice is within its limits
-reward_within : (T : Table) → Lawful T → (s k : ℕ) → s < T.states → k < T.choices s → (r : ℤ) → r ≡ T.reward s k → Within 1000000 r
+reward_within : (T : Table) → Lawful T → (s k : ℕ) → s < T.states → k < T.choices s → (r : ℤ) → r ≡ T.reward s k → Bounded 1000000 r
 reward_within T L s k h l r e = let w = L.rewards s k h l in let a = w.0 in let b = w.1 in (omega (arith, ints), omega (arith, ints))
 
 -- the sum is that of the vector after the choice

@@ -4,7 +4,7 @@ use Rattle.table.specs.Table.{Table}
 use Rattle.components.specs.Inside.{inside}
 use Rattle.model.specs.Held.{table_of}
 use Rattle.model.specs.declared.model.Model.{Model}
-use Rattle.decomposition.specs.Dropping.{Flagged}
+use Rattle.decomposition.specs.Flags.{Flagged}
 use Rattle.decomposition.specs.Numbered.{Numbered}
 use Rattle.model.proofs.Unbroken.{model_lawful}
 use Rattle.decomposition.proofs.Decomposing.{own_flags, few_nodes, decomposed}

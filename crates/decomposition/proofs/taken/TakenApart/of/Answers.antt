@@ -3,7 +3,7 @@ use Rattle.table.specs.Table.{Table}
 use Rattle.components.specs.Inside.{inside}
 use Rattle.model.specs.Held.{table_of}
 use Rattle.model.proofs.Unbroken.{model_lawful}
-use Rattle.decomposition.specs.Marking.{flag_at}
+use Rattle.decomposition.specs.Flags.{flag_at}
 use Rattle.decomposition.proofs.Decomposing.{all_set}
 use Rattle.decomposition.proofs.Drops.{reach_same}
 use Rattle.decomposition.proofs.taken.TakenApart.of.Goals as goal

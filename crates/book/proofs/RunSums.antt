@@ -9,7 +9,8 @@ use Rattle.std.specs.Bool.{⊤}
 use Rattle.std.specs.Iterator.{Yields, Drains}
 use Rattle.table.specs.Sums.{sum_n}
 use Rattle.horizon.specs.Sums.{sum_z, weighted_z}
-use Rattle.book.specs.Rows.{place_at, weight_at, Within, Small}
+use Rattle.book.specs.Bounded.{Bounded, AllBounded}
+use Rattle.book.specs.RunSums.{place_at, weight_at}
 use Rattle.horizon.specs.Ring.{lin, mono, over_neg}
 
 -- n times a number that is at most B either way
@@ -91,8 +92,8 @@ module _ (run : List (ℕ × ℕ)) (values : List ℤ) where
       ∙ get_or-map product run i (0, 0) (pos 0) (omega arith)) in
       omega (arith, lin)
 
-  module _ (inside : (b : ℕ) → b < length run → place_at run b < length values) (light : sum_n (length run) (weight_at run) ≤ 2 ^ 16) (small : Small values) where
-    part_within : (k : ℕ) → k ≤ length run → Within (sum_n k (weight_at run) * 2 ^ 46) (part_sum k)
+  module _ (inside : (b : ℕ) → b < length run → place_at run b < length values) (light : sum_n (length run) (weight_at run) ≤ 2 ^ 16) (small : AllBounded values) where
+    part_within : (k : ℕ) → k ≤ length run → Bounded (sum_n k (weight_at run) * 2 ^ 46) (part_sum k)
     part_within zero l = (omega (arith, lin), omega (arith, lin))
     part_within (suc k) l =
         let ih = part_within k (omega arith) in
@@ -101,7 +102,7 @@ module _ (run : List (ℕ × ℕ)) (values : List ℤ) where
         (omega (arith, lin), omega (arith, lin))
 
     -- none of them is large
-    pub part_small : (k : ℕ) → k ≤ length run → Within (2 ^ 62) (part_sum k)
+    pub part_small : (k : ℕ) → k ≤ length run → Bounded (2 ^ 62) (part_sum k)
     part_small k l =
         let r = part_within k l in
         let p = part_of k (length run) (weight_at run) l in
@@ -109,7 +110,7 @@ module _ (run : List (ℕ × ℕ)) (values : List ℤ) where
 
     -- each branch of the run has a place, a weight and a value
     pub branch_fits : (x : ℕ × ℕ) (k : ℕ) → k < length run → x ≡ get_or run k x
-        → (x.0 < length values) × (x.1 ≤ 2 ^ 16) × Within (2 ^ 46) (get_or values x.0 (pos 0))
+        → (x.0 < length values) × (x.1 ≤ 2 ^ 16) × Bounded (2 ^ 46) (get_or values x.0 (pos 0))
     branch_fits x k h e =
         let q : x ≡ get_or {A = ℕ × ℕ} run k (0, 0) = e ∙ get_or_default run k x (0, 0) h in
         let p : x.0 ≡ place_at run k = ap (λ (y : ℕ × ℕ). y.0) q in

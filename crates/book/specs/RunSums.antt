@@ -1,14 +1,6 @@
--- Weighted sums over a run of branches, each a place and a weight, and how large a number can be.
-use Rattle.std.specs.Prelude.{ℕ, ◌^◌, ◌<◌, List, length, ℤ, pos, neg_ℤ, ◌≤ℤ◌, slice_index_or}
+-- The weighted sum over a run of branches, each a place and a weight.
+use Rattle.std.specs.Prelude.{ℕ, List, length, ℤ, pos, slice_index_or}
 use Rattle.horizon.specs.Sums.{weighted_z}
-
--- z is not above b, and not below its opposite
-abbrev pub Within : ℕ → ℤ → Type 0
-Within b z = (neg_ℤ (pos b) ≤ℤ z) × (z ≤ℤ pos b)
-
--- no number is above 2^46 or below its opposite, so that no weighted sum overflows
-abbrev pub Small : List ℤ → Type 0
-Small values = (k : ℕ) → k < length values → Within (2 ^ 46) (slice_index_or values k (pos 0))
 
 -- the place and the weight of the branch b of a run
 abbrev pub place_at : List (ℕ × ℕ) → ℕ → ℕ

@@ -5,16 +5,16 @@ use Rattle.components.specs.Nodes.{node_of, nodes}
 use Rattle.rules.specs.Setting.{Setting}
 use Rattle.table.specs.Table.{Table}
 use Rattle.horizon.specs.Means.{round_down, round_up}
-use Rattle.book.specs.Faces.{faces_table, faces_setting, upper_means, lower_means}
+use Rattle.book.specs.SideBounds.{bounds_table, bounds_setting, upper_means, lower_means}
 use Rattle.book.specs.Layouts.{denominator_of, layout_table}
-use Rattle.book.specs.Rows.{place_at, weight_at, run_sum}
+use Rattle.book.specs.RunSums.{place_at, weight_at, run_sum}
 use Rattle.book.specs.declared.layout.Layout.{Layout}
 use Rattle.book.proofs.Exits.{inside_more, leaving_more}
 use Rattle.book.proofs.Layouts.{law}
 use Rattle.book.proofs.Links.{node_within}
 use Rattle.book.proofs.Runs.{run_within, run_light, run_total}
-use Rattle.book.proofs.faces.Faces.best_choices.Goals as goal
-use Rattle.book.proofs.faces.Faces.best_choices.Goals.{After-links_of-run, then-not-is_inside, else-not-is_inside}
+use Rattle.book.proofs.side_bounds.SideBounds.best_choices.Goals as goal
+use Rattle.book.proofs.side_bounds.SideBounds.best_choices.Goals.{After-links_of-run, then-not-is_inside, else-not-is_inside}
 
 -- the links of the choice lead to nodes, and their weights are not too large
 module _ (c : After-links_of-run) where
@@ -44,10 +44,10 @@ leave-lower-requires c =
 
 pub loop-choice-preserved : goal.loop-choice-preserved
 loop-choice-preserved c =
-    let F = c.args.self.now in
-    let f : Layout = F.layout.now in
-    let T : Table = faces_table F in
-    let M : Setting = faces_setting F in
+    let bounds = c.args.self.now in
+    let f : Layout = bounds.layout.now in
+    let T : Table = bounds_table bounds in
+    let M : Setting = bounds_setting bounds in
     let W : ℕ = denominator_of f in
     let s : ℕ = c.args.state in
     let i : ℕ = c.loop-choice.choice in
@@ -61,13 +61,13 @@ loop-choice-preserved c =
           let total = run_total T (law f) s i c.requires k (node_of T) run w.links_of-run.ensures.size w.links_of-run.ensures.at in
           let out : choices.inside T s i ≡ false = sym c.is_inside.ensures ∙ w.if-not-is_inside.true in (
             w.upper-is ∙ w.leave-upper.ensures
-                ∙ leaving_more M (upper_means F) s i c.args.upper c.loop-choice.upper up out (round_up (run_sum run F.x.now) W) (ap (λ (z : ℤ). round_up z W) (total F.x.now)),
+                ∙ leaving_more M (upper_means bounds) s i c.args.upper c.loop-choice.upper up out (round_up (run_sum run bounds.x.now) W) (ap (λ (z : ℤ). round_up z W) (total bounds.x.now)),
             w.lower-is ∙ w.leave-lower.ensures
-                ∙ leaving_more M (lower_means F) s i c.args.lower c.loop-choice.lower low out (round_down (run_sum run F.y.now) W) (ap (λ (z : ℤ). round_down z W) (total F.y.now)),
+                ∙ leaving_more M (lower_means bounds) s i c.args.lower c.loop-choice.lower low out (round_down (run_sum run bounds.y.now) W) (ap (λ (z : ℤ). round_down z W) (total bounds.y.now)),
           ))
       | else-not-is_inside w ↦ (
           let within : choices.inside T s i ≡ true = sym c.is_inside.ensures ∙ w.if-not-is_inside.false in (
-            w.upper-is ∙ inside_more M (upper_means F) s i c.args.upper c.loop-choice.upper up within,
-            w.lower-is ∙ inside_more M (lower_means F) s i c.args.lower c.loop-choice.lower low within,
+            w.upper-is ∙ inside_more M (upper_means bounds) s i c.args.upper c.loop-choice.upper up within,
+            w.lower-is ∙ inside_more M (lower_means bounds) s i c.args.lower c.loop-choice.lower low within,
           ))
     ]
