@@ -124,4 +124,11 @@ BUGS = [
     ("rules", "specs/Refine.antt", "round_down (gain M round_down t s) 2", "round_up (gain M round_down t s) 2", "half of a gain is rounded up by definition"),
     ("rules", "specs/Sweep.antt", "cond (int_lt a.value b.value) (Some b) (Some a)", "cond (int_lt b.value a.value) (Some a) (Some b)", "the last of equal candidates is best by definition"),
     ("rules", "specs/Play.antt", "first (T.choices s) (λ c. inside T s c && enters T (λ u. nat_eq (suc (distance T t u)) (distance T t s)) s c)", "first (T.choices s) (λ c. inside T s c)", "by definition the first inside choice is played toward an exit"),
+    # components and samples
+    ("components", "specs/Inside.antt", "B s c && every (T.branches s c) (λ b. r (successor T s c b) s)", "B s c && every (T.branches s c) (λ b. r s (successor T s c b))", "by definition a pass keeps the choices whose successors are reached, not those that lead back"),
+    ("components", "specs/Inside.antt", "inside T = passes T (sum_n T.states T.choices)", "inside T = passes T 0", "by definition every choice is inside"),
+    ("components", "src/lib.rt", "    states\n", "    states.saturating_sub(1)\n", "a table has a node fewer than states at most"),
+    ("samples", "src/tables.rt", "(7_919 * choice % (2 * most + 1)) as i32 - most as i32", "(7_919 * choice % (2 * most + 1)) as i32", "no reward of a large table is negative"),
+    ("samples", "src/tables.rt", "[1, 2_047, 4_096, 6_144, 8_192, 12_288, 16_384, 16_384]", "[1, 2_048, 4_096, 6_144, 8_192, 12_288, 16_384, 16_384]", "the uneven weights do not add up"),
+    ("samples", "src/day.rt", "const STAYING: (u32, u32) = (3, 1);", "const STAYING: (u32, u32) = (3, 2);", "the export is not broken"),
 ]
