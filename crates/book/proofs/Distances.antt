@@ -3,18 +3,17 @@ use Rattle.std.proofs.Common.{◌≡◌, ℕ, zero, suc, ◌+◌, ◌-◌, ◌<�
 use Rattle.std.specs.Option.{option_eq}
 use Rattle.std.proofs.lemmas.Option.{none-some, same_Some}
 use Rattle.std.proofs.lemmas.List.{get_or-set_same, get_or-set_other}
-use Rattle.std.proofs.lemmas.Bool.{cases_Bool, cases_eq, cases_lt, both_ways, and_parts, and_from, and_left, or_cases, or_right, cond-true, cond-false, cond_both, eq-eqb, ne_eqb, eqb-true, lt-ltb, le-ltb, le-leb, lt-leb}
+use Rattle.std.proofs.lemmas.Bool.{cases_Bool, cases_eq, cases_lt, both_ways, and_parts, and_from, and_left, or_cases, cond-true, cond-false, cond_both, eq-eqb, ne_eqb, eqb-true, lt-ltb, le-ltb, le-leb, lt-leb}
 use Rattle.table.specs.Table.{Table, successor}
 use Rattle.table.specs.Limits.{Lawful}
 use Rattle.components.specs.Below.{first}
-use Rattle.components.specs.EndComponent.{Reaches, stays, steps}
 use Rattle.components.specs.Inside.{inside}
 use Rattle.components.specs.Nodes.{node_of}
 use Rattle.components.proofs.Below.{any_some, any_from, first_le}
 use Rattle.components.proofs.Labels.{first_same}
 use Rattle.rules.specs.Layers.{layer, level}
 use Rattle.rules.specs.Play.{enters, inward, distance, toward}
-use Rattle.rules.proofs.Distances.{enters_mono}
+use Rattle.rules.proofs.Distances.{inward_mono, inward_step, near as reached, distance_zero}
 use Rattle.rules.proofs.Layers as layers
 use Rattle.rules.proofs.Nodes.{joined, stays_node}
 use Rattle.book.specs.Plays.{mark_at, has_mark, inside_into, first_into, Measured}
@@ -44,15 +43,6 @@ mark_is (Some a) k e = ap Some (eqb-true a k e)
 is_mark : (o : Option ℕ) (k : ℕ) → o ≡ Some k → option_eq eqb o (Some k) ≡ true
 is_mark o k q = ap (λ (x : Option ℕ). option_eq eqb x (Some k)) q ∙ eq-eqb k k refl
 
--- what leads into a set leads into a larger one
-inward_mono : (T : Table) → Lawful T → (P Q : ℕ → Bool) → ((u : ℕ) → u < T.states → P u ≡ true → Q u ≡ true)
-    → (s : ℕ) → s < T.states → inward T P s ≡ true → inward T Q s ≡ true
-inward_mono T L P Q k s h e =
-    let x = any_some (T.choices s) (λ c. inside T s c && enters T P s c) e in
-    let w = and_parts (inside T s x.0) (enters T P s x.0) x.2 in
-    any_from (T.choices s) (λ c. inside T s c && enters T Q s c) x.0 x.1
-    (and_from (inside T s x.0) (enters T Q s x.0) w.0 (enters_mono T L P Q k s x.0 h x.1 w.1))
-
 module _ (T : Table) (L : Lawful T) (t : ℕ) where
   abbrev near : ℕ → ℕ → Bool
   near k = layer (λ u. eqb u t) (inward T) k
@@ -67,10 +57,6 @@ module _ (T : Table) (L : Lawful T) (t : ℕ) where
   unfolding distance level
   near_least k s e = first_le (suc T.states) (λ i. near i s) k e
 
-  pub distance_here : (s : ℕ) → s ≡ t → distance T t s ≡ 0
-  unfolding layer
-  distance_here s q = let a = near_least 0 s (eq-eqb s t q) in omega arith
-
   pub distance_other : (s : ℕ) → (s ≡ t → ⊥) → 0 < distance T t s
   unfolding layer
   distance_other s n =
@@ -79,33 +65,18 @@ module _ (T : Table) (L : Lawful T) (t : ℕ) where
       (λ (q : distance T t s ≡ 0 → ⊥). omega arith)
       (cases_eq (distance T t s) 0)
 
-  -- a branch of an inside choice into a layer leads from the next layer
-  near_more : (k s c b : ℕ) → c < T.choices s → inside T s c ≡ true → b < T.branches s c → near k (successor T s c b) ≡ true → near (suc k) s ≡ true
-  unfolding layer
-  near_more k s c b h i l g =
-      or_right (near k s) (inward T (near k) s)
-      (any_from (T.choices s) (λ d. inside T s d && enters T (near k) s d) c h
-      (and_from (inside T s c) (enters T (near k) s c) i
-      (any_from (T.branches s c) (λ d. near k (successor T s c d)) b l g)))
-
   -- a branch of an inside choice leads one step nearer at most
   pub rise : (s c b : ℕ) → c < T.choices s → inside T s c ≡ true → b < T.branches s c
       → distance T t (successor T s c b) ≤ T.states → distance T t s ≤ suc (distance T t (successor T s c b))
   rise s c b h i l e =
       let k = distance T t (successor T s c b) in
-      near_least (suc k) s (near_more k s c b h i l (near_at k (successor T s c b) refl e))
+      near_least (suc k) s (inward_step T L t k s c b h i l (near_at k (successor T s c b) refl e))
 
-  -- what reaches t is in a layer
-  some_near : {s u : ℕ} → Reaches T (inside T) s u → u ≡ t → (k : ℕ) × (near k s ≡ true)
-  unfolding layer
-  some_near (stays {s = s}) q = (0, eq-eqb s t q)
-  some_near (steps {s = s} c b p i l r) q = let x = some_near r q in (suc x.0, near_more x.0 s c b p.choice i l x.1)
-
-  -- so no state of the node of t is further away than there are states
+  -- no state of the node of t is further away than there are states
   pub within : (s : ℕ) → s < T.states → t < T.states → node_of T s ≡ node_of T t → distance T t s ≤ T.states
   unfolding distance
   within s h l e =
-      let k = some_near (joined T L s t h l e) refl in
+      let k = reached T L (joined T L s t h l e) in
       layers.level_low T.states (λ u. eqb u t) (inward T) (inward_mono T L) k.0 s h k.1
 
   -- a state k + 1 steps away has an inside choice with a branch to one k steps away
@@ -181,7 +152,7 @@ module _ (T : Table) (L : Lawful T) (t : ℕ) where
     starts distances h k all u l e =
         ⊎_elim
         (λ (q : u ≡ t).
-        let z = distance_here u q in
+        let z = distance_zero T L t u q in
         let i : t < length distances = omega arith in
         let a : mark_at (set distances t (Some 0)) u ≡ Some 0 = rw q (get_or-set_same distances t (Some 0) None i) in
         let b = value (cond (ltb u 0) (0 + 1) 0) u (omega arith) in

@@ -23,7 +23,8 @@ enters_mono T L P Q k s c h l e =
     (k (successor T s c x.0) (L.successors s c x.0 h l x.1) x.2)
 
 module _ (T : Table) (L : Lawful T) where
-  inward_mono : (P Q : ℕ → Bool) → ((u : ℕ) → u < T.states → P u ≡ true → Q u ≡ true)
+  -- what leads into a set leads into a larger one
+  pub inward_mono : (P Q : ℕ → Bool) → ((u : ℕ) → u < T.states → P u ≡ true → Q u ≡ true)
       → (s : ℕ) → s < T.states → inward T P s ≡ true → inward T Q s ≡ true
   inward_mono P Q k s h e =
       let x = any_some (T.choices s) (λ c. inside T s c && enters T P s c) e in
@@ -32,11 +33,11 @@ module _ (T : Table) (L : Lawful T) where
       (and_from (inside T s x.0) (enters T Q s x.0) w.0 (enters_mono T L P Q k s x.0 h x.1 w.1))
 
   module _ (t : ℕ) where
-    abbrev goal : ℕ → Bool
+    abbrev pub goal : ℕ → Bool
     goal u = eqb u t
 
   -- a branch of an inside choice into a layer leads to the next layer
-  inward_step : (t k s c b : ℕ) → c < T.choices s → inside T s c ≡ true → b < T.branches s c
+  pub inward_step : (t k s c b : ℕ) → c < T.choices s → inside T s c ≡ true → b < T.branches s c
       → layer (goal t) (inward T) k (successor T s c b) ≡ true → layer (goal t) (inward T) (suc k) s ≡ true
   inward_step t k s c b h i l e =
       layers.steps T.states (goal t) (inward T) inward_mono k s
@@ -45,7 +46,7 @@ module _ (T : Table) (L : Lawful T) where
       (any_from (T.branches s c) (λ d. layer (goal t) (inward T) k (successor T s c d)) b l e)))
 
   -- what reaches t is in a layer about t
-  near : {s t : ℕ} → Reaches T (inside T) s t → (k : ℕ) × (layer (goal t) (inward T) k s ≡ true)
+  pub near : {s t : ℕ} → Reaches T (inside T) s t → (k : ℕ) × (layer (goal t) (inward T) k s ≡ true)
   unfolding layer
   near (stays {s = s}) = (0, eq-eqb s s refl)
   near {t = t} (steps {s = s} c b p i l r) = let x = near r in (suc x.0, inward_step t x.0 s c b p.choice i l x.1)
