@@ -1,23 +1,82 @@
 -- The steps of listing the states node by node.
-use Rattle.std.proofs.Common.{◌≡◌, ℕ, ◌+◌, ◌-◌, ◌*◌, ◌<◌, ◌≤◌, not, eqb, List, [], ◌∷◌, ◌++◌, length, get_or, take, drop, sym, refl, ap, ◌∙◌, subst, ap₂, ⊎_elim, arith}
+use Rattle.std.proofs.Common.{◌≡◌, ℕ, zero, suc, ◌+◌, ◌-◌, ◌<◌, ◌≤◌, Bool, cond, not, eqb, ltb, List, [], ◌∷◌, ◌++◌, map, length, get_or, take, drop, filter, sym, refl, ap, ◌∙◌, subst, ap₂, ⊎_elim, arith}
 use Rattle.std.specs.List.{range_with_len}
-use Rattle.std.proofs.lemmas.List.FromFn.{length-range_with_len}
+use Rattle.std.proofs.lemmas.List.FromFn.{length-range_with_len, filter_of_map_range_with_len_more}
 use Rattle.std.proofs.lemmas.List.Filters.{length-filter_both}
 use Rattle.std.proofs.lemmas.List.{length-append, length_push, get_or_push, get_or_append_left, take-append-le, drop-append-le, drop_at, take_all, length-drop}
-use Rattle.std.proofs.lemmas.Bool.{cases_eq}
+use Rattle.std.proofs.lemmas.Bool.{cases_eq, cases_lt, lt-ltb, le-ltb, eq-eqb, ne_eqb}
 use Rattle.book.specs.Grouped.{states_at, Grouped}
 
-few_states : (node : ℕ → ℕ) (k v : ℕ) → length (states_at node k v) ≤ k
-few_states node k v =
-    let a = length-filter_both (λ s. eqb (node s) v) (λ s. not (eqb (node s) v)) (λ _. refl) (range_with_len 0 k) in
+-- what a test keeps of the first k states is no more than these
+few_kept : (p : ℕ → Bool) (k : ℕ) → length (filter p (range_with_len 0 k)) ≤ k
+few_kept p k =
+    let a = length-filter_both p (λ s. not (p s)) (λ _. refl) (range_with_len 0 k) in
     let b = length-range_with_len 0 k in
     omega arith
 
-pub few_members : (node : ℕ → ℕ) (n k : ℕ) (starts members more : List ℕ) → n ≤ 256 → Grouped node n k starts members
-    → more ≡ members ++ states_at node n k → length more ≤ 256 * k + 256
-few_members node n k starts members more small G e =
-    let a = ap length e ∙ length-append members (states_at node n k) in
-    let b = few_states node n k in
+-- one more node
+split_below : (node : ℕ → ℕ) (v : ℕ) (xs : List ℕ)
+    → length (filter (λ s. ltb (node s) (v + 1)) xs) ≡ length (filter (λ s. ltb (node s) v) xs) + length (filter (λ s. eqb (node s) v) xs)
+split_below node v [] = refl
+split_below node v (x ∷ xs) =
+    let r = split_below node v xs in
+    ⊎_elim
+    (λ (h : node x < v).
+    let a = lt-ltb (node x) (v + 1) (omega arith) in
+    let b = lt-ltb (node x) v h in
+    let d = ne_eqb (node x) v (λ e. omega arith) in
+    rw (a, b, d) (omega arith))
+    (λ (h : v ≤ node x). ⊎_elim
+    (λ (e : node x ≡ v).
+    let a = lt-ltb (node x) (v + 1) (omega arith) in
+    let b = le-ltb (node x) v h in
+    let d = eq-eqb (node x) v e in
+    rw (a, b, d) (omega arith))
+    (λ (e : node x ≡ v → ⊥).
+    let a = le-ltb (node x) (v + 1) (omega arith) in
+    let b = le-ltb (node x) v h in
+    let d = ne_eqb (node x) v e in
+    rw (a, b, d) (omega arith))
+    (cases_eq (node x) v))
+    (cases_lt (node x) v)
+
+-- one more state
+same_map : (xs : List ℕ) → map (λ x. x) xs ≡ xs
+same_map [] = refl
+same_map (x ∷ xs) = ap (λ ys. x ∷ ys) (same_map xs)
+
+pub states_more : (node : ℕ → ℕ) (k v : ℕ) → states_at node (k + 1) v ≡ states_at node k v ++ cond (eqb (node k) v) (k ∷ []) []
+states_more node k v =
+    let p : ℕ → Bool = λ s. eqb (node s) v in
+    sym (ap (filter p) (same_map (range_with_len 0 (k + 1))))
+    ∙ filter_of_map_range_with_len_more p (λ x. x) 0 k k (omega arith)
+    ∙ ap (λ xs. filter p xs ++ cond (p k) (k ∷ []) []) (same_map (range_with_len 0 k))
+
+longer : (node : ℕ → ℕ) (v k d : ℕ) → length (states_at node k v) ≤ length (states_at node (k + d) v)
+longer node v k zero = let e : k + 0 ≡ k = omega arith in let q = ap (λ i. length (states_at node i v)) e in omega arith
+longer node v k (suc d) =
+    let e : k + suc d ≡ (k + d) + 1 = omega arith in
+    let q = ap (λ i. length (states_at node i v)) e in
+    let r = longer node v k d in
+    let m = ap length (states_more node (k + d) v) ∙ length-append (states_at node (k + d) v) (cond (eqb (node (k + d)) v) ((k + d) ∷ []) []) in
+    omega arith
+
+-- a state of the node that comes before the k-th is one of its members
+pub states_within : (node : ℕ → ℕ) (v k s : ℕ) → s < k → node s ≡ v → length (states_at node s v) + 1 ≤ length (states_at node k v)
+states_within node v k s h e =
+    let d : ℕ = k - (s + 1) in
+    let z : (s + 1) + d ≡ k = omega arith in
+    let q = ap (λ i. length (states_at node i v)) z in
+    let r = longer node v (s + 1) d in
+    let t = ap length (states_more node s v ∙ ap (λ b. states_at node s v ++ cond b (s ∷ []) []) (eq-eqb (node s) v e)) ∙ length-append (states_at node s v) (s ∷ []) in
+    omega arith
+
+-- the members of one more node are no more than the states
+pub few_members : (node : ℕ → ℕ) (n k : ℕ) (starts members : List ℕ) → Grouped node n k starts members
+    → length members + length (states_at node n k) ≤ n
+few_members node n k starts members G =
+    let a = split_below node k (range_with_len 0 n) in
+    let b = few_kept (λ s. ltb (node s) (k + 1)) n in
     let d = G.few in
     omega arith
 
@@ -37,7 +96,7 @@ module _ (node : ℕ → ℕ) (n k x : ℕ) (starts next members more : List ℕ
       → next ≡ starts ++ (x ∷ []) → x ≡ length more → Grouped node n (k + 1) next more
   grouped_more G eM eS ex = record {
     size = let a = long_s in let b = G.size in omega arith;
-    few = let a = long_m in let b = G.few in let d = few_states node n k in omega arith;
+    few = let a = long_m in let b = G.few in let d = split_below node k (range_with_len 0 n) in omega arith;
     last = new_start ∙ ex;
     rises = λ v h. ⊎_elim
         (λ (q : v ≡ k). subst (λ (w : ℕ). get_or next w 0 ≤ get_or next (w + 1) 0) (sym q)

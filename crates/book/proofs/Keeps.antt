@@ -1,5 +1,5 @@
 -- The test of what the code's numbers keep finds just that.
-use Rattle.std.proofs.Common.{◌≡◌, ℕ, Bool, true, false, ◌&&◌, eqb, ltb, leb, length, get_or, ℤ, pos, ◌≤ℤ◌, vec_items, vec_len, refl, ⊎_elim, arith}
+use Rattle.std.proofs.Common.{◌≡◌, ℕ, Bool, true, false, ◌&&◌, eqb, ltb, leb, length, get_or, ℤ, pos, ◌≤ℤ◌, vec_items, vec_len, vec_capacity, refl, ⊎_elim, arith}
 use lib.Signed.{le_z}
 use Rattle.std.proofs.lemmas.Bool.{and_parts, and_from, cases_Bool, eq-eqb, eqb-true, le-leb, leb-true, lt-ltb, ltb-true}
 use Rattle.table.specs.Table.{Table}
@@ -13,8 +13,8 @@ use Rattle.rules.specs.Book as rules
 use Rattle.rules.specs.Fit.{Lengths, VectorFits, RecordedFits, Within, ExitFits, Fit}
 use Rattle.rules.specs.declared.exit.Exit.{Exit}
 use Rattle.rules.specs.declared.exit.Exit.TheVariants.{Stay, Leave}
-use Rattle.book.specs.Books.{book_of, Kept}
-use Rattle.book.specs.Keeps.{lengths, vector_fits, recorded_fits, within, exit_fits, fits, keeps}
+use Rattle.book.specs.Books.{book_of, HasRoom, Kept}
+use Rattle.book.specs.Keeps.{lengths, vector_fits, recorded_fits, within, exit_fits, fits, has_room, keeps}
 use Rattle.book.specs.declared.book.Book.{Book}
 
 le_le_z : (a b : ℤ) → a ≤ℤ b → le_z a b ≡ true
@@ -125,19 +125,50 @@ module _ (M : Setting) where
       (join (within_from (nodes M.table) (at_z B.y) f.y)
       (every_from (nodes M.table) (λ v. exit_fits M v (rules.exit_at B.plan v)) (λ v h. exit_from v (rules.exit_at B.plan v) (f.plan v h)))))))))
 
+  room_true : (b : Book) → has_room b ≡ true → HasRoom b
+  room_true b e =
+      let p = split e in let q = split p.1 in let r = split q.1 in let s = split r.1 in let t = split s.1 in
+      let u = split t.1 in let v = split u.1 in let w = split v.1 in let x = split w.1 in
+      (
+        leb-true 256 (vec_capacity b.vector) p.0,
+        leb-true 256 (vec_capacity b.recorded) q.0,
+        leb-true 256 (vec_capacity b.lo) r.0,
+        leb-true 256 (vec_capacity b.hi) s.0,
+        leb-true 256 (vec_capacity b.x) t.0,
+        leb-true 256 (vec_capacity b.y) u.0,
+        leb-true 256 (vec_capacity b.plan) v.0,
+        leb-true 256 (vec_capacity b.halfway) w.0,
+        leb-true 256 (vec_capacity b.marks) x.0,
+        leb-true 256 (vec_capacity b.distances) x.1,
+      )
+
+  room_from : (b : Book) → HasRoom b → has_room b ≡ true
+  room_from b h =
+      join (le-leb 256 (vec_capacity b.vector) h.0)
+      (join (le-leb 256 (vec_capacity b.recorded) h.1)
+      (join (le-leb 256 (vec_capacity b.lo) h.2)
+      (join (le-leb 256 (vec_capacity b.hi) h.3)
+      (join (le-leb 256 (vec_capacity b.x) h.4)
+      (join (le-leb 256 (vec_capacity b.y) h.5)
+      (join (le-leb 256 (vec_capacity b.plan) h.6)
+      (join (le-leb 256 (vec_capacity b.halfway) h.7)
+      (join (le-leb 256 (vec_capacity b.marks) h.8)
+      (le-leb 256 (vec_capacity b.distances) h.9)))))))))
+
 -- the test passes exactly where the numbers keep all that
 pub keeps_true : (T : Table) (b : Book) → keeps T b ≡ true → Kept T b
 unfolding keeps
 keeps_true T b e =
     let M = setting_of T in
-    let p = split M e in let q = split M p.1 in let r = split M q.1 in let t = split M r.1 in
+    let p = split M e in let q = split M p.1 in let r = split M q.1 in let t = split M r.1 in let u = split M t.1 in
     record {
       fit = fits_true M (book_of b) p.0;
       natural = λ s h. le_z_true (pos 0) (get_or (vec_items b.vector) s (pos 0))
           (every_at T.states (λ s. le_z (pos 0) (get_or (vec_items b.vector) s (pos 0))) q.0 s h);
       halfway = eqb-true (vec_len b.halfway) T.states r.0;
       marks = eqb-true (vec_len b.marks) T.states t.0;
-      distances = eqb-true (vec_len b.distances) T.states t.1;
+      distances = eqb-true (vec_len b.distances) T.states u.0;
+      room = room_true M b u.1;
     }
 
 pub keeps_from : (T : Table) (b : Book) → Kept T b → keeps T b ≡ true
@@ -148,4 +179,5 @@ keeps_from T b k =
     (join M (every_from T.states (λ s. le_z (pos 0) (get_or (vec_items b.vector) s (pos 0)))
     (λ s h. le_le_z (pos 0) (get_or (vec_items b.vector) s (pos 0)) (k.natural s h)))
     (join M (eq-eqb (vec_len b.halfway) T.states k.halfway)
-    (join M (eq-eqb (vec_len b.marks) T.states k.marks) (eq-eqb (vec_len b.distances) T.states k.distances))))
+    (join M (eq-eqb (vec_len b.marks) T.states k.marks)
+    (join M (eq-eqb (vec_len b.distances) T.states k.distances) (room_from M b k.room)))))

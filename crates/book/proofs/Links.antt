@@ -16,7 +16,7 @@ module _ (f : Layout) where
 
   module _ (s c : ℕ) (h : s < (layout_table f).states) (k : c < (layout_table f).choices s) where
     abbrev nodes_of : ℕ × ℕ → ℕ × ℕ
-    nodes_of = link_of (λ u. get_or (vec_items f.node) u 0)
+    nodes_of = link_of (λ u. get_or (vec_items f.parts.node) u 0)
 
     pub links_within : (choice_of f s c).first + (choice_of f s c).count ≤ length (link_rows f)
     links_within =

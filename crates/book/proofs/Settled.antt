@@ -68,4 +68,5 @@ module _ (T : Table) (v : ℕ) (b : Book) (upper lower : Option Candidate) (is-u
     halfway = K.halfway;
     marks = K.marks;
     distances = K.distances;
+    room = K.room;
   }

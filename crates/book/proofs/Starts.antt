@@ -21,7 +21,7 @@ use Rattle.rules.specs.declared.exit.Exit.TheVariants.{Stay, Leave}
 use Rattle.rules.proofs.Nodes.{inside_component, inside_choice, lowest_state}
 use Rattle.rules.proofs.Start.{start_fit}
 use Rattle.book.specs.declared.book.Book.{Book}
-use Rattle.book.specs.Books.{book_of, Kept}
+use Rattle.book.specs.Books.{book_of, HasRoom, Kept}
 use Rattle.book.specs.Facts.{node_states}
 use Rattle.book.specs.Starts.{first_inside, first_exit, Sized, Started}
 use Rattle.book.proofs.Lists.{Found}
@@ -107,6 +107,7 @@ pub record Holds (T : Table) (b : Book) : Type 0 where
   pub halfway : vec_len b.halfway ≡ T.states
   pub marks : vec_len b.marks ≡ T.states
   pub distances : vec_len b.distances ≡ T.states
+  pub room : HasRoom b
 
 module _ (T : Table) (L : Lawful T) (b : Book) (h : Holds T b) where
   book_is : book_of b ≡ start (setting_of T)
@@ -129,6 +130,7 @@ module _ (T : Table) (L : Lawful T) (b : Book) (h : Holds T b) where
       halfway = h.halfway;
       marks = h.marks;
       distances = h.distances;
+      room = h.room;
     };
   }
 
@@ -148,4 +150,5 @@ kept_sized T b k =
       halfway = k.halfway;
       marks = k.marks;
       distances = k.distances;
+      room = k.room;
     }

@@ -1,5 +1,5 @@
 -- The book that the code's numbers stand for.
-use Rattle.std.specs.Prelude.{◌≡◌, ℕ, ◌<◌, map, pos, ◌≤ℤ◌, vec_items, vec_len, slice_index_or, unsigned_abs}
+use Rattle.std.specs.Prelude.{◌≡◌, ℕ, ◌<◌, ◌≤◌, map, pos, ◌≤ℤ◌, vec_items, vec_len, vec_capacity, slice_index_or, unsigned_abs}
 use Rattle.table.specs.Table.{Table}
 use Rattle.rules.specs.Setting.{setting_of}
 use Rattle.rules.specs.Book as rules
@@ -17,7 +17,14 @@ book_of b = record {
   plan = vec_items b.plan;
 }
 
--- what the code's numbers of a table keep: their book fits (`Fit` of the rules), and beside that no number of a vector is negative and there is working space for each state;
+-- each list has room for every lawful table, which has at most 256 states, nodes and components
+abbrev pub HasRoom : Book → Type 0
+HasRoom b =
+    (256 ≤ vec_capacity b.vector) × (256 ≤ vec_capacity b.recorded) × (256 ≤ vec_capacity b.lo) × (256 ≤ vec_capacity b.hi) × (256 ≤ vec_capacity b.x)
+    × (256 ≤ vec_capacity b.y) × (256 ≤ vec_capacity b.plan) × (256 ≤ vec_capacity b.halfway) × (256 ≤ vec_capacity b.marks) × (256 ≤ vec_capacity b.distances)
+
+-- what the code's numbers of a table keep: their book fits (`Fit` of the rules), and beside that no number of a vector is negative, there is working space for each state, and
+-- each list has room for the next table;
 -- `keeps` is the same as a test
 pub record Kept (T : Table) (b : Book) : Type 0 where
   pub fit : Fit (setting_of T) (book_of b)
@@ -25,3 +32,4 @@ pub record Kept (T : Table) (b : Book) : Type 0 where
   pub halfway : vec_len b.halfway ≡ T.states
   pub marks : vec_len b.marks ≡ T.states
   pub distances : vec_len b.distances ≡ T.states
+  pub room : HasRoom b

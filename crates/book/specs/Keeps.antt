@@ -1,5 +1,5 @@
 -- What the code's numbers of a table keep, as a test: each one passes exactly where the fact named above it holds.
-use Rattle.std.specs.Prelude.{ℕ, Bool, true, ◌&&◌, length, ℤ, pos, vec_items, vec_len, ◌==◌, int_le, nat_le, nat_lt, slice_index_or}
+use Rattle.std.specs.Prelude.{ℕ, Bool, true, ◌&&◌, length, ℤ, pos, vec_items, vec_len, vec_capacity, ◌==◌, int_le, nat_le, nat_lt, slice_index_or}
 use Rattle.table.specs.Table.{Table}
 use Rattle.components.specs.Below.{every, any}
 use Rattle.components.specs.Nodes.{nodes, node_of, components, states_of}
@@ -46,9 +46,18 @@ fits M B =
     && (within M (nodes M.table) (at_z B.x) && (within M (nodes M.table) (at_z B.y)
     && every (nodes M.table) (λ v. exit_fits M v (rules.exit_at B.plan v))))))))
 
+-- `HasRoom`
+abbrev pub has_room : Book → Bool
+has_room b =
+    nat_le 256 (vec_capacity b.vector) && (nat_le 256 (vec_capacity b.recorded)
+    && (nat_le 256 (vec_capacity b.lo) && (nat_le 256 (vec_capacity b.hi)
+    && (nat_le 256 (vec_capacity b.x) && (nat_le 256 (vec_capacity b.y)
+    && (nat_le 256 (vec_capacity b.plan) && (nat_le 256 (vec_capacity b.halfway)
+    && (nat_le 256 (vec_capacity b.marks) && nat_le 256 (vec_capacity b.distances)))))))))
+
 -- `Kept`
 unfoldable pub keeps : Table → Book → Bool
 keeps T b =
     fits (setting_of T) (book_of b)
     && (every T.states (λ s. int_le (pos 0) (slice_index_or (vec_items b.vector) s (pos 0)))
-    && (vec_len b.halfway == T.states && (vec_len b.marks == T.states && vec_len b.distances == T.states)))
+    && (vec_len b.halfway == T.states && (vec_len b.marks == T.states && (vec_len b.distances == T.states && has_room b))))

@@ -26,7 +26,7 @@ abbrev pub link_rows : Layout → List (ℕ × ℕ)
 link_rows l = vec_items l.links
 
 abbrev pub inside_flags : Layout → List Bool
-inside_flags l = vec_items l.inside
+inside_flags l = vec_items l.parts.inside
 
 abbrev pub layout_table : Layout → Table
 layout_table l = table_of l.model

@@ -8,7 +8,7 @@ use Rattle.rules.specs.Setting.{setting_of}
 use Rattle.rules.specs.Book.{start}
 use Rattle.rules.specs.declared.exit.Exit.{Exit}
 use Rattle.rules.specs.declared.exit.Exit.TheVariants.{Stay, Leave}
-use Rattle.book.specs.Books.{book_of, Kept}
+use Rattle.book.specs.Books.{book_of, HasRoom, Kept}
 use Rattle.book.specs.declared.book.Book.{Book}
 
 -- the choice that `start` records of a state: its first inside choice, and 0 of a lone state
@@ -19,7 +19,7 @@ first_inside T s = cond (in_component T s) (first (T.choices s) (inside T s)) 0
 abbrev pub first_exit : Table → ℕ → Exit
 first_exit T v = elim (component_at T v) [ Some i ↦ Stay | None ↦ Leave (lowest_of T v) 0 ]
 
--- each list has the places that it needs, whatever stands there; a book that is `Kept` has them
+-- each list has the places that it needs, whatever stands there, and room for every lawful table; a book that is `Kept` has them
 pub record Sized (T : Table) (b : Book) : Type 0 where
   pub vector : vec_len b.vector ≡ T.states
   pub recorded : vec_len b.recorded ≡ T.states
@@ -31,6 +31,7 @@ pub record Sized (T : Table) (b : Book) : Type 0 where
   pub halfway : vec_len b.halfway ≡ T.states
   pub marks : vec_len b.marks ≡ T.states
   pub distances : vec_len b.distances ≡ T.states
+  pub room : HasRoom b
 
 -- the book is the start, and is `Kept`
 pub record Started (T : Table) (b : Book) : Type 0 where

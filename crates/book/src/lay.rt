@@ -1,48 +1,63 @@
-ghost use Rattle.std.specs.Prelude.{◌≡◌, MatchResult};
-ghost use Rattle.model.specs.Copy.{Copies};
-ghost use Rattle.model.specs.Held.{table_of};
-ghost use Rattle.model.specs.Loads.{LeastReward, LargestReward, RefusedLoad};
-ghost use Rattle.decomposition.specs.Decomposed.{Decomposed};
+ghost use Rattle.std.specs.Prelude.{◌≡◌, IfOk, MatchResult};
+ghost use Rattle.model.specs.Loads.{StaysAt};
+ghost use Rattle.model.specs.Room.{still_table};
 ghost use Rattle.book.specs.Layouts.{LaidOut};
 
-use crate::groups::{Groups, group_states};
+use crate::groups::group_states;
 use crate::layout::Layout;
 use crate::listed::{link_branches, list_homes};
-use decomposition::Parts;
-use model::{LoadFault, Model};
-use std::alloc::Global;
-use table::Source;
+use decomposition::{Parts, Scratch};
+use model::Model;
+use std::alloc::{AllocError, Global};
+use table::{Fault, Source};
 
-// The lists of a model and its parts.
-fn lay_out(heap: Global, model: Model, parts: Parts) -> Result<Layout, LoadFault>
-    requires parts { Decomposed (table_of model) parts }
-    requires least { LeastReward (table_of model) model.least }
-    requires largest { LargestReward (table_of model) model.largest }
-    ensures { Copies result (λ l. l.model ≡ model) }
-{
-    let links = link_branches(heap, &parts, &model.rows.branches)?;
-    let Groups { members, starts } = group_states(heap, &parts, model.states())?;
-    let home = list_homes(heap, &parts)?;
-    Ok(Layout {
-        model,
-        links,
-        inside: parts.inside,
-        node: parts.node,
-        members,
-        starts,
-        component: parts.component,
-        home,
-    })
-}
+// The most that a lawful table has.
+const MOST_STATES: usize = 256;
+
+const MOST_BRANCHES: usize = 128 * MOST_STATES;
 
 impl Layout {
-    // The layout of the source's table, if it is lawful; else the first broken limit on its walk.
-    pub fn of<S: Source>(heap: Global, source: &S) -> Result<Layout, LoadFault>
-        ensures { MatchResult result (LaidOut (S.table source.now)) (RefusedLoad (S.table source.now)) }
+    // The layout of a table of one state that stays, with room for every lawful table.
+    pub fn new(heap: Global) -> Result<Layout, AllocError>
+        ensures { IfOk result (LaidOut still_table) }
     {
-        let model = Model::load(heap, source)?;
-        let parts = Parts::of(heap, &model)?;
-        let layout = lay_out(heap, model, parts)?;
-        Ok(layout)
+        let model = Model::new(heap)?;
+        let mut parts = Parts::new(heap)?;
+        let mut scratch = Scratch::new(heap)?;
+        let mut links = Vec::with_capacity(heap, MOST_BRANCHES)?;
+        let mut members = Vec::with_capacity(heap, MOST_STATES)?;
+        let mut starts = Vec::with_capacity(heap, MOST_STATES + 1)?;
+        let mut home = Vec::with_capacity(heap, MOST_STATES)?;
+        parts.take_apart(&mut scratch, &model);
+        link_branches(&parts, &model.rows.branches, &mut links);
+        group_states(&parts, model.states(), &mut members, &mut starts);
+        list_homes(&parts, &mut home);
+        Ok(Layout {
+            model,
+            links,
+            parts,
+            members,
+            starts,
+            home,
+            scratch,
+        })
+    }
+
+    // Takes the source's table in place of the one that it holds, if it is lawful; else it stays as it is, and answers
+    // the first broken limit on the walk.
+    pub fn load<S: Source>(&mut self, source: &S) -> Result<(), Fault>
+        ensures { MatchResult result (λ _. LaidOut (S.table source.now) self.new) (StaysAt (S.table source.now) self.old self.new) }
+    {
+        self.model.load(source)?;
+        self.parts.take_apart(&mut self.scratch, &self.model);
+        link_branches(&self.parts, &self.model.rows.branches, &mut self.links);
+        group_states(
+            &self.parts,
+            self.model.states(),
+            &mut self.members,
+            &mut self.starts,
+        );
+        list_homes(&self.parts, &mut self.home);
+        Ok(())
     }
 }

@@ -1,24 +1,23 @@
-ghost use Rattle.std.specs.Prelude.{◌≡◌, ◌≤◌, map, length};
-ghost use Rattle.model.specs.Copy.{Copies};
+ghost use Rattle.std.specs.Prelude.{◌≡◌, ◌≤◌, map, length, vec_capacity};
 ghost use Rattle.decomposition.specs.Decomposed.{node_in};
 ghost use Rattle.book.specs.Listed.{link_of, Homes};
 
 use decomposition::Parts;
-use model::LoadFault;
-use std::alloc::Global;
 
-// Each branch with the node of its successor in the successor's place.
+// Writes each branch, with the node of its successor in the successor's place, over what the list holds.
 pub(crate) fn link_branches(
-    heap: Global,
     parts: &Parts,
     branches: &[(u32, u32)],
-) -> Result<Vec<(u32, u32)>, LoadFault>
-    ensures { Copies result (λ links. links.items ≡ map (link_of (node_in parts.now)) branches.now) }
+    links: &mut Vec<(u32, u32)>,
+)
+    requires { length branches.now ≤ vec_capacity links.old }
+    ensures links { links.new.items ≡ map (link_of (node_in parts.now)) branches.now }
+    ensures room { vec_capacity links.old ≤ vec_capacity links.new }
 {
-    let links = branches
-        .iter()
-        .map(|branch| (parts.node_of(branch.0), branch.1));
-    Ok(links.collect(heap)?)
+    links.clear();
+    for &(successor, weight) in branches {
+        links.push((parts.node_of(successor), weight)).unwrap();
+    }
 }
 
 // Writes each node at the place of the component that it is.
@@ -37,12 +36,13 @@ fn write_homes(component: &[Option<u32>], home: &mut [u32])
     }
 }
 
-// The node of each component.
-pub(crate) fn list_homes(heap: Global, parts: &Parts) -> Result<Vec<u32>, LoadFault>
-    ensures size { Copies result (λ home. length home.items ≡ parts.now.components) }
-    ensures homes { Copies result (λ home. Homes parts.now.component.items home.items) }
+// Writes the node of each component over what the list holds.
+pub(crate) fn list_homes(parts: &Parts, home: &mut Vec<u32>)
+    requires { parts.now.components ≤ vec_capacity home.old }
+    ensures size { length home.new.items ≡ parts.now.components }
+    ensures homes { Homes parts.now.component.items home.new.items }
+    ensures room { vec_capacity home.old ≤ vec_capacity home.new }
 {
-    let mut home = vec![in heap; 0; parts.components() as usize]?;
-    write_homes(&parts.component, &mut home);
-    Ok(home)
+    home.resize(parts.components() as usize, 0).unwrap();
+    write_homes(&parts.component, home);
 }

@@ -26,7 +26,7 @@ impl Layout {
         ensures count { result ≡ (layout_table self.now).states }
         ensures few { result ≤ 256 }
     {
-        self.node.len() as u32
+        self.parts.node.len() as u32
     }
 
     // How many nodes there are.
@@ -35,7 +35,7 @@ impl Layout {
         ensures count { result ≡ nodes (layout_table self.now) }
         ensures few { result ≤ 256 }
     {
-        self.component.len() as u32
+        self.parts.component.len() as u32
     }
 
     // How many components there are.
@@ -101,7 +101,7 @@ impl Layout {
         ensures { result ≡ inside (layout_table self.now) state choice }
     {
         // 16 to a state, as the parts lay them; their own place is a function of crate decomposition alone
-        self.inside[16 * state as usize + choice as usize]
+        self.parts.inside[16 * state as usize + choice as usize]
     }
 
     // The node of a state.
@@ -109,7 +109,7 @@ impl Layout {
         requires { state < (layout_table self.now).states }
         ensures { result ≡ node_of (layout_table self.now) state }
     {
-        self.node[state as usize]
+        self.parts.node[state as usize]
     }
 
     // The component that a node is, if it is one.
@@ -117,7 +117,7 @@ impl Layout {
         requires { node < nodes (layout_table self.now) }
         ensures { result ≡ component_at (layout_table self.now) node }
     {
-        self.component[node as usize]
+        self.parts.component[node as usize]
     }
 
     // The node of a component.

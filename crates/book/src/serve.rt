@@ -1,5 +1,6 @@
-ghost use Rattle.std.specs.Prelude.{◌≡◌, MatchResult};
-ghost use Rattle.model.specs.Loads.{RefusedLoad};
+ghost use Rattle.std.specs.Prelude.{◌≡◌, IfOk, MatchResult};
+ghost use Rattle.model.specs.Loads.{StaysAt};
+ghost use Rattle.model.specs.Room.{still_table};
 ghost use Rattle.components.specs.Nodes.{components as components_of};
 ghost use Rattle.rules.specs.Choosing.{at_z};
 ghost use Rattle.rules.specs.Setting.{setting_of};
@@ -9,23 +10,34 @@ ghost use Rattle.rules.specs.Runs.Change.{refines, sweeping, closing};
 ghost use Rattle.rules.specs.Sweep.{sweeps};
 ghost use Rattle.book.specs.Desks.{desk_table, desk_book, AtStart, steps_made, bounds_at, plan_in, SmallBound};
 
+use crate::book::Book;
 use crate::desk::Desk;
 use crate::layout::Layout;
 use crate::play::write_nodes;
-use crate::start::{new_book, write_start};
-use model::LoadFault;
-use std::alloc::Global;
-use table::Source;
+use crate::start::write_start;
+use std::alloc::{AllocError, Global};
+use table::{Fault, Source};
 
 // That the table is as it was stands on each call that changes a desk: a type cannot say what a call leaves as it was.
 impl Desk {
-    // The source's table at its start, if it is lawful; else the first broken limit on its walk.
-    pub fn open<S: Source>(heap: Global, source: &S) -> Result<Desk, LoadFault>
-        ensures { MatchResult result (AtStart (S.table source.now)) (RefusedLoad (S.table source.now)) }
+    // A table of one state that stays, at its start, with room for every lawful table.
+    pub fn new(heap: Global) -> Result<Desk, AllocError>
+        ensures { IfOk result (AtStart still_table) }
     {
-        let layout = Layout::of(heap, source)?;
-        let book = new_book(heap, &layout)?;
+        let layout = Layout::new(heap)?;
+        let mut book = Book::new(heap)?;
+        book.start(&layout);
         Ok(Desk { layout, book })
+    }
+
+    // Takes the source's table, at its start, in place of the one that it holds, if it is lawful; else it stays as it is, and answers
+    // the first broken limit on the walk.
+    pub fn load<S: Source>(&mut self, source: &S) -> Result<(), Fault>
+        ensures { MatchResult result (λ _. AtStart (S.table source.now) self.new) (StaysAt (S.table source.now) self.old self.new) }
+    {
+        self.layout.load(source)?;
+        self.book.start(&self.layout);
+        Ok(())
     }
 
     // The number of states.

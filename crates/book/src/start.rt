@@ -5,6 +5,7 @@ ghost use Rattle.rules.specs.Promises.{lower_at, upper_at};
 ghost use Rattle.rules.specs.Setting.{setting_of, bottom, top};
 ghost use Rattle.book.specs.Layouts.{layout_table};
 ghost use Rattle.book.specs.Desks.{desk_table, desk_book};
+ghost use Rattle.book.specs.Books.{HasRoom};
 ghost use Rattle.book.specs.Starts.{first_inside, first_exit, Sized, Started};
 
 use crate::book::Book;
@@ -89,27 +90,46 @@ pub(crate) fn write_start(layout: &Layout, book: &mut Book)
     plan_first(layout, &mut book.plan);
 }
 
-// A book at the start.
-pub(crate) fn new_book(heap: Global, layout: &Layout) -> Result<Book, AllocError>
-    ensures { IfOk result (Started (layout_table layout.now)) }
-{
-    let states = layout.states() as usize;
-    let nodes = layout.nodes() as usize;
-    let components = layout.components() as usize;
-    let mut book = Book {
-        vector: vec![in heap; 0; states]?,
-        recorded: vec![in heap; 0; states]?,
-        lo: vec![in heap; 0; components]?,
-        hi: vec![in heap; 0; components]?,
-        x: vec![in heap; 0; nodes]?,
-        y: vec![in heap; 0; nodes]?,
-        plan: vec![in heap; Exit::Stay; nodes]?,
-        halfway: vec![in heap; 0; states]?,
-        marks: vec![in heap; 0; states]?,
-        distances: vec![in heap; None; states]?,
-    };
-    write_start(layout, &mut book);
-    Ok(book)
+impl Book {
+    // An empty book, with room for that of every lawful table.
+    pub(crate) fn new(heap: Global) -> Result<Book, AllocError>
+        ensures { IfOk result HasRoom }
+    {
+        let most = 256;
+        Ok(Book {
+            vector: Vec::with_capacity(heap, most)?,
+            recorded: Vec::with_capacity(heap, most)?,
+            lo: Vec::with_capacity(heap, most)?,
+            hi: Vec::with_capacity(heap, most)?,
+            x: Vec::with_capacity(heap, most)?,
+            y: Vec::with_capacity(heap, most)?,
+            plan: Vec::with_capacity(heap, most)?,
+            halfway: Vec::with_capacity(heap, most)?,
+            marks: Vec::with_capacity(heap, most)?,
+            distances: Vec::with_capacity(heap, most)?,
+        })
+    }
+
+    // Gives each list the places that it needs of a table, and writes the start.
+    pub(crate) fn start(&mut self, layout: &Layout)
+        requires { HasRoom self.old }
+        ensures { Started (layout_table layout.now) self.new }
+    {
+        let states = layout.states() as usize;
+        let nodes = layout.nodes() as usize;
+        let components = layout.components() as usize;
+        self.vector.resize(states, 0).unwrap();
+        self.recorded.resize(states, 0).unwrap();
+        self.lo.resize(components, 0).unwrap();
+        self.hi.resize(components, 0).unwrap();
+        self.x.resize(nodes, 0).unwrap();
+        self.y.resize(nodes, 0).unwrap();
+        self.plan.resize(nodes, Exit::Stay).unwrap();
+        self.halfway.resize(states, 0).unwrap();
+        self.marks.resize(states, 0).unwrap();
+        self.distances.resize(states, None).unwrap();
+        write_start(layout, self);
+    }
 }
 
 impl Desk {

@@ -1,10 +1,10 @@
-ghost use Rattle.std.specs.Prelude.{◌≡◌, ◌+◌, ◌*◌, ◌<◌, true, false, length, take, replicate, IfOk, slice_set};
+ghost use Rattle.std.specs.Prelude.{◌≡◌, ◌+◌, ◌*◌, ◌<◌, ◌≤◌, true, false, length, take, replicate, IfOk, slice_set, vec_capacity};
 ghost use Rattle.decomposition.specs.Flags.{flag_at};
 
 use std::alloc::{AllocError, Global};
 
 // How many flags a set has: 16 to each of 256 states. This is its size, and no limit of a table, which `table` checks.
-const ALL_FLAGS: usize = 4096;
+pub(crate) const ALL_FLAGS: usize = 4096;
 
 // How many flags each state has: a size too.
 pub(crate) const MOST_CHOICES: u32 = 16;
@@ -34,6 +34,13 @@ impl Kept {
         })
     }
 
+    // Puts all choices into the set.
+    pub(crate) fn fill(&mut self)
+        ensures { self.new.flags.items ≡ replicate 4096 true }
+    {
+        self.flags.fill(true);
+    }
+
     // Whether a choice is in the set.
     pub(crate) fn has(&self, state: u32, choice: u32) -> bool
         ensures { result ≡ flag_at self.now.flags.items state choice }
@@ -53,11 +60,16 @@ impl Kept {
         self.flags[place(state, choice)] = false;
     }
 
-    // The flags of the first states.
-    pub(crate) fn of_states(&self, heap: Global, states: u32) -> Result<Vec<bool>, AllocError>
-        requires { states < 257 }
-        ensures { IfOk result (λ flags. flags.items ≡ take (16 * states) self.now.flags.items) }
+    // Writes the flags of the first states over what a list with room for them holds.
+    pub(crate) fn write_states(&self, states: u32, flags: &mut Vec<bool>)
+        requires few { states < 257 }
+        requires room { 4096 ≤ vec_capacity flags.old }
+        ensures flags { flags.new.items ≡ take (16 * states) self.now.flags.items }
+        ensures room { 4096 ≤ vec_capacity flags.new }
     {
-        self.flags[..place(states, 0)].to_vec(heap)
+        flags.clear();
+        flags
+            .extend_from_slice(&self.flags[..place(states, 0)])
+            .unwrap();
     }
 }

@@ -9,7 +9,9 @@ mod number;
 mod parts;
 mod passes;
 mod reach;
+mod scratch;
 mod taken;
 
 pub use apart::decompose;
 pub use parts::Parts;
+pub use scratch::Scratch;

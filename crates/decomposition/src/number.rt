@@ -1,4 +1,4 @@
-ghost use Rattle.std.specs.Prelude.{◌≡◌, ◌+◌, ◌<◌, ◌≤◌, true, IfOk};
+ghost use Rattle.std.specs.Prelude.{◌≡◌, ◌+◌, ◌<◌, ◌≤◌, true};
 ghost use Rattle.table.specs.Sums.{sum_n};
 ghost use Rattle.components.specs.Below.{any, first};
 ghost use Rattle.model.specs.Held.{table_of};
@@ -8,9 +8,9 @@ ghost use Rattle.decomposition.specs.Numbered.{Numbered};
 
 use crate::bits::Square;
 use crate::kept::Kept;
+use crate::parts::Parts;
 use crate::taken::TakenApart;
 use model::Model;
-use std::alloc::{AllocError, Global};
 use table::Source;
 
 // How many choices a table has.
@@ -41,48 +41,37 @@ fn has_choice(model: &Model, kept: &Kept, state: u32) -> bool
     (0..model.choices(state)).any(|choice| kept.has(state, choice))
 }
 
-// What has been numbered: of each state so far its node, of each node the component that it is, if it is one,
-// and how many components there are. Two lists: there are other numbers of states and of nodes.
-#[derive(Drop)]
-pub(crate) struct Numbering {
-    pub(crate) node: Vec<u32>,
-    pub(crate) component: Vec<Option<u32>>,
-    pub(crate) components: u32,
-}
-
-impl Numbering {
+impl Parts {
     // Numbers the node of the next state, with its component if it is one.
-    fn add_state(&mut self, apart: &TakenApart, state: u32) -> Result<(), AllocError>
+    fn add_state(&mut self, apart: &TakenApart, state: u32)
         requires within { state < (table_of apart.now.model.now).states }
         requires so_far { Numbered (table_of apart.now.model.now) state self.old.node.items self.old.component.items self.old.components }
-        ensures { IfOk result (λ _. Numbered (table_of apart.now.model.now) (state + 1) self.new.node.items self.new.component.items self.new.components) }
+        ensures { Numbered (table_of apart.now.model.now) (state + 1) self.new.node.items self.new.component.items self.new.components }
     {
-        let low = lowest_state(&apart.square, apart.model.states(), state);
+        let low = lowest_state(apart.square, apart.model.states(), state);
         if low < state {
             let known = self.node[low as usize];
-            self.node.push(known)?;
-            return Ok(());
+            self.node.push(known).unwrap();
+            return;
         }
         let number = self.component.len() as u32;
-        let inside = has_choice(apart.model, &apart.kept, state);
-        self.component.push(inside.then_some(self.components))?;
-        self.node.push(number)?;
+        let inside = has_choice(apart.model, apart.kept, state);
+        self.component
+            .push(inside.then_some(self.components))
+            .unwrap();
+        self.node.push(number).unwrap();
         self.components += u32::from(inside);
-        Ok(())
     }
-}
 
-// Numbers all nodes and components by rising lowest state.
-pub(crate) fn number(heap: Global, apart: &TakenApart) -> Result<Numbering, AllocError>
-    ensures { IfOk result (λ n. Numbered (table_of apart.now.model.now) (table_of apart.now.model.now).states n.node.items n.component.items n.components) }
-{
-    let mut numbering = Numbering {
-        node: Vec::new(heap),
-        component: Vec::new(heap),
-        components: 0,
-    };
-    for state in 0..apart.model.states() {
-        numbering.add_state(apart, state)?;
+    // Numbers all nodes and components by rising lowest state, over what was numbered before.
+    pub(crate) fn number(&mut self, apart: &TakenApart)
+        ensures { Numbered (table_of apart.now.model.now) (table_of apart.now.model.now).states self.new.node.items self.new.component.items self.new.components }
+    {
+        self.node.clear();
+        self.component.clear();
+        self.components = 0;
+        for state in 0..apart.model.states() {
+            self.add_state(apart, state);
+        }
     }
-    Ok(numbering)
 }

@@ -1,8 +1,8 @@
-ghost use Rattle.std.specs.Prelude.{◌≤◌, vec_len};
+ghost use Rattle.std.specs.Prelude.{◌≤◌, vec_len, vec_capacity};
 
 // What a table is taken apart into: whether each choice is inside, 16 to a state; the node of each state;
 // the component that each node is, if it is one; and how many components there are. A list for each: there are other numbers of choices,
-// of states and of nodes.
+// of states and of nodes. Each has room for every lawful table.
 #[derive(Drop)]
 pub struct Parts {
     pub inside: Vec<bool>,
@@ -10,4 +10,7 @@ pub struct Parts {
     pub component: Vec<Option<u32>>,
     pub components: u32,
     ghost few: { vec_len component ≤ 256 },
+    ghost inside_room: { 4096 ≤ vec_capacity inside },
+    ghost node_room: { 256 ≤ vec_capacity node },
+    ghost component_room: { 256 ≤ vec_capacity component },
 }

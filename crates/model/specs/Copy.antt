@@ -1,12 +1,10 @@
 -- What a copy of a part of a table holds.
-use Rattle.std.specs.Prelude.{◌≡◌, ℕ, ◌+◌, ◌*◌, ◌<◌, ◌≤◌, List, ◌++◌, map, length, ℤ, Result, MatchResult, slice_index_or}
+use Rattle.std.specs.Prelude.{◌≡◌, ℕ, ◌+◌, ◌*◌, ◌<◌, ◌≤◌, List, ◌++◌, map, length, ℤ, slice_index_or}
 use Rattle.std.specs.List.{range_with_len, All}
 use Rattle.table.specs.Table.{Table, ZeroOutside}
 use Rattle.sources.specs.Rows.{no_state, no_choice}
 use Rattle.sources.specs.declared.list.StateRow.{StateRow}
 use Rattle.sources.specs.declared.list.ChoiceRow.{ChoiceRow}
-use Rattle.model.specs.declared.fault.LoadFault.{LoadFault}
-use Rattle.model.specs.declared.fault.LoadFault.TheVariants.{Memory}
 
 -- new is old with more at its end
 pub record Extends {X : Type 0} (old new : List X) : Type 0 where
@@ -58,7 +56,3 @@ pub record StatesCopied (T : Table) (k : ℕ) (states : List StateRow) (choices 
 pub record TableCopied (T : Table) (states : List StateRow) (choices : List ChoiceRow) (branches : List (ℕ × ℕ)) : Type 0 where
   pub rows : StatesCopied T T.states states choices branches
   pub outside : ZeroOutside T
-
--- P holds of what was copied, or memory was wanting
-abbrev pub Copies : {X : Type 0} → Result X LoadFault → (X → Type 0) → Type 0
-Copies r P = MatchResult r P (λ e. e ≡ Memory)

@@ -1,5 +1,6 @@
 pub mod Unbroken
 pub mod Rewards
+pub mod Room
 pub mod Held
 pub mod Copy
 pub mod Loads

@@ -4,6 +4,7 @@ use Rattle.table.specs.Table.{Table}
 use Rattle.table.specs.Limits.{Lawful}
 use Rattle.table.specs.Faults.{noted, notice_of}
 use Rattle.table.specs.Walk.{fault_of}
+use Rattle.table.specs.declared.fault.Fault.{Fault}
 use Rattle.table.specs.declared.fault.Notice.{Notice}
 use Rattle.model.specs.Held.{table_of}
 use Rattle.model.specs.declared.model.Model.{Model}
@@ -32,7 +33,11 @@ pub record Loaded (T : Table) (m : Model) : Type 0 where
   pub least : LeastReward T m.least
   pub largest : LargestReward T m.largest
 
--- a broken limit is the first on the walk; memory is wanted only for a table that keeps them all
+-- a load is refused with the first broken limit on the walk, and leaves what there was
+abbrev pub StaysAt : {A : Type 0} → Table → A → A → Fault → Type 0
+StaysAt T old new e = (fault_of T ≡ Some e) × (new ≡ old)
+
+-- what is made anew from a table is refused with the first broken limit, or with want of memory, only for a table that keeps them all
 abbrev pub RefusedLoad : Table → LoadFault → Type 0
 RefusedLoad T (Limit e) = fault_of T ≡ Some e
 RefusedLoad T Memory = fault_of T ≡ None

@@ -1,24 +1,29 @@
-ghost use Rattle.std.specs.Prelude.{◌≡◌, ◌*◌, ◌<◌, ◌≤◌, length};
+ghost use Rattle.std.specs.Prelude.{◌≡◌, ◌+◌, ◌*◌, ◌≤◌, ◌<◌, length, vec_capacity};
 ghost use Rattle.table.specs.Limits.{Lawful};
-ghost use Rattle.model.specs.Copy.{BranchesCopied, ChoicesCopied, TableCopied, Copies};
+ghost use Rattle.model.specs.Copy.{BranchesCopied, ChoicesCopied, TableCopied};
+ghost use Rattle.model.specs.Room.{HasRoom};
 
-use crate::fault::LoadFault;
 use sources::{ChoiceRow, OwnedList, StateRow};
-use std::alloc::Global;
 use table::Source;
 
-// Adds the branches of a choice.
+// The lists have room for the rows of every lawful table, so that nothing here asks for memory.
+
+// Adds the branches of a choice. Not by `extend`: no clause says that it succeeds where there is room.
 fn copy_branches<S: Source>(
     source: &S,
     state: u32,
     choice: u32,
     branches: &mut Vec<(u32, u32)>,
-) -> Result<(), LoadFault>
-    ensures { Copies result (λ _. BranchesCopied (S.table source.now) state choice branches.old.items branches.new.items) }
+)
+    requires room { length branches.old.items + (S.table source.now).branches state choice ≤ vec_capacity branches.old }
+    ensures copied { BranchesCopied (S.table source.now) state choice branches.old.items branches.new.items }
+    ensures room { vec_capacity branches.old ≤ vec_capacity branches.new }
 {
-    let count = source.branches(state, choice);
-    branches.extend((0..count).map(|branch| source.branch(state, choice, branch)))?;
-    Ok(())
+    for branch in 0..source.branches(state, choice) {
+        branches
+            .push(source.branch(state, choice, branch))
+            .unwrap();
+    }
 }
 
 // Adds the choices of a state, with their branches.
@@ -27,44 +32,47 @@ fn copy_choices<S: Source>(
     state: u32,
     choices: &mut Vec<ChoiceRow>,
     branches: &mut Vec<(u32, u32)>,
-) -> Result<(), LoadFault>
+)
     requires lawful { Lawful (S.table source.now) }
     requires within { state < (S.table source.now).states }
-    requires room { length branches.old.items ≤ 128 * 256 }
-    ensures { Copies result (λ _. ChoicesCopied (S.table source.now) state ((S.table source.now).choices state) choices.old.items choices.new.items branches.old.items branches.new.items) }
+    requires choice_room { length choices.old.items + 16 ≤ vec_capacity choices.old }
+    requires branch_room { length branches.old.items + 128 ≤ vec_capacity branches.old }
+    requires few { length branches.old.items ≤ 128 * 256 }
+    ensures copied { ChoicesCopied (S.table source.now) state ((S.table source.now).choices state) choices.old.items choices.new.items branches.old.items branches.new.items }
+    ensures choice_room { vec_capacity choices.old ≤ vec_capacity choices.new }
+    ensures branch_room { vec_capacity branches.old ≤ vec_capacity branches.new }
 {
     for choice in 0..source.choices(state) {
         let first = branches.len() as u32;
         let reward = source.reward(state, choice);
         let count = source.branches(state, choice);
-        copy_branches(source, state, choice, branches)?;
-        choices.push(ChoiceRow {
-            reward,
-            first,
-            count,
-        })?;
+        copy_branches(source, state, choice, branches);
+        choices
+            .push(ChoiceRow {
+                reward,
+                first,
+                count,
+            })
+            .unwrap();
     }
-    Ok(())
 }
 
-// The denominator, and the rows of all states, choices and branches.
-pub(crate) fn copy_states<S: Source>(heap: Global, source: &S) -> Result<OwnedList, LoadFault>
-    requires { Lawful (S.table source.now) }
-    ensures { Copies result (λ o. (o.denominator ≡ (S.table source.now).denominator) × TableCopied (S.table source.now) o.states.items o.choices.items o.branches.items) }
+// Writes the denominator, and the rows of all states, choices and branches, over what the lists hold.
+pub(crate) fn copy_states<S: Source>(source: &S, rows: &mut OwnedList)
+    requires lawful { Lawful (S.table source.now) }
+    requires room { HasRoom rows.old }
+    ensures denominator { rows.new.denominator ≡ (S.table source.now).denominator }
+    ensures copied { TableCopied (S.table source.now) rows.new.states.items rows.new.choices.items rows.new.branches.items }
+    ensures room { HasRoom rows.new }
 {
-    let mut states = Vec::new(heap);
-    let mut choices = Vec::new(heap);
-    let mut branches = Vec::new(heap);
+    rows.denominator = source.denominator();
+    rows.states.clear();
+    rows.choices.clear();
+    rows.branches.clear();
     for state in 0..source.states() {
-        let first = choices.len() as u32;
+        let first = rows.choices.len() as u32;
         let count = source.choices(state);
-        copy_choices(source, state, &mut choices, &mut branches)?;
-        states.push(StateRow { first, count })?;
+        copy_choices(source, state, &mut rows.choices, &mut rows.branches);
+        rows.states.push(StateRow { first, count }).unwrap();
     }
-    Ok(OwnedList {
-        denominator: source.denominator(),
-        states,
-        choices,
-        branches,
-    })
 }

@@ -1,27 +1,60 @@
-ghost use Rattle.std.specs.Prelude.{MatchResult};
-ghost use Rattle.model.specs.Loads.{Loaded, RefusedLoad};
+ghost use Rattle.std.specs.Prelude.{IfOk, MatchResult};
+ghost use Rattle.model.specs.Loads.{Loaded, StaysAt};
+ghost use Rattle.model.specs.Room.{still_table};
 
 use crate::copy::copy_states;
-use crate::fault::LoadFault;
 use crate::model::Model;
 use crate::rewards::{largest_reward, least_reward};
-use std::alloc::Global;
-use table::{Source, check};
+use sources::{ChoiceRow, OwnedList, StateRow};
+use std::alloc::{AllocError, Global};
+use table::{Fault, Source, check};
+
+// The most that a lawful table has.
+const MOST_STATES: usize = 256;
+
+const MOST_CHOICES: usize = 16 * MOST_STATES;
+
+const MOST_BRANCHES: usize = 8 * MOST_CHOICES;
 
 impl Model {
-    // A copy of the source's table, if it is lawful; else the first broken limit on its walk.
-    pub fn load<S: Source>(heap: Global, source: &S) -> Result<Model, LoadFault>
-        ensures { MatchResult result (Loaded (S.table source.now)) (RefusedLoad (S.table source.now)) }
+    // A table of one state that stays, in lists with room for every lawful table: a load then asks for no memory.
+    pub fn new(heap: Global) -> Result<Model, AllocError>
+        ensures { IfOk result (Loaded still_table) }
+    {
+        let mut states = Vec::with_capacity(heap, MOST_STATES)?;
+        let mut choices = Vec::with_capacity(heap, MOST_CHOICES)?;
+        let mut branches = Vec::with_capacity(heap, MOST_BRANCHES)?;
+        states.push(StateRow { first: 0, count: 1 }).unwrap();
+        choices
+            .push(ChoiceRow {
+                reward: 0,
+                first: 0,
+                count: 1,
+            })
+            .unwrap();
+        branches.push((0, 1)).unwrap();
+        Ok(Model {
+            rows: OwnedList {
+                denominator: 1,
+                states,
+                choices,
+                branches,
+            },
+            least: 0,
+            largest: 0,
+        })
+    }
+
+    // Takes the source's table in place of the one that it holds, if it is lawful; else it stays as it is, and answers
+    // the first broken limit on the walk.
+    pub fn load<S: Source>(&mut self, source: &S) -> Result<(), Fault>
+        ensures { MatchResult result (λ _. Loaded (S.table source.now) self.new) (StaysAt (S.table source.now) self.old self.new) }
     {
         check(source)?;
-        let rows = copy_states(heap, source)?;
+        copy_states(source, &mut self.rows);
         // 0 of no choices, which a lawful table does not have: a `let .. else` for each would only say that it never comes
-        let least = least_reward(&rows.choices).unwrap_or(0);
-        let largest = largest_reward(&rows.choices).unwrap_or(0);
-        Ok(Model {
-            rows,
-            least,
-            largest,
-        })
+        self.least = least_reward(&self.rows.choices).unwrap_or(0);
+        self.largest = largest_reward(&self.rows.choices).unwrap_or(0);
+        Ok(())
     }
 }

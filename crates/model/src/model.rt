@@ -3,18 +3,21 @@ ghost use Rattle.std.specs.Int.{int_min, int_max};
 ghost use Rattle.std.specs.List.{reduce};
 ghost use Rattle.sources.specs.Rows.{owned_table};
 ghost use Rattle.model.specs.Rewards.{rewards};
+ghost use Rattle.model.specs.Room.{HasRoom};
 ghost use Rattle.model.specs.Unbroken.{Unbroken};
 
 use sources::OwnedList;
 
-// The engine's own copy of a lawful table, with the least and the largest reward of its rows.
+// The engine's own copy of a lawful table, with the least and the largest reward of its rows, in lists with room for every lawful table.
 // The fields are public since the inner loops of crate book read the rows themselves; whoever makes a model must prove its facts.
 #[derive(Drop)]
 pub struct Model {
     pub rows: OwnedList,
     pub least: i32,
     pub largest: i32,
+    ghost room: { HasRoom rows },
     ghost few: { vec_len rows.states ≤ 256 },
+    ghost few_branches: { vec_len rows.branches ≤ 32768 },
     ghost lawful: { Unbroken (owned_table rows) },
     ghost least_is: { reduce int_min (rewards rows.choices.items) ≡ Some least },
     ghost largest_is: { reduce int_max (rewards rows.choices.items) ≡ Some largest },

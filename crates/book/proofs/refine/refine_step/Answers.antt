@@ -12,7 +12,7 @@ use Rattle.rules.specs.Choosing.{at, at_z, largest, smallest}
 use Rattle.rules.specs.Refine.{halfway, held, largest_up, least_down, attains, next_lo, next_hi, step}
 use Rattle.rules.specs.Setting.{Setting, setting_of}
 use Rattle.rules.proofs.Choosing.{largest_bound, smallest_bound}
-use Rattle.book.specs.Books.{book_of, Kept}
+use Rattle.book.specs.Books.{book_of, HasRoom, Kept}
 use Rattle.book.specs.Layouts.{layout_table}
 use Rattle.book.specs.Inside.{vector_of}
 use Rattle.book.specs.declared.book.Book.{Book}
@@ -201,6 +201,14 @@ module _ (c : Joined-rises) where
             ))
       ]
 
+  -- its lists keep their room
+  full : HasRoom c.if-rises.book
+  full =
+      elim c.if-rises.branch [
+        | then-rises w ↦ subst HasRoom (sym w.book-is) K.room
+        | else-rises w ↦ subst HasRoom (sym w.book-is) K.room
+      ]
+
   halfway-is : vec_items c.if-rises.book.halfway ≡ c.survey-found.new.halfway
   halfway-is = ap (λ (n : Book). vec_items n.halfway) joined.0 ∙ with_items_is b.halfway c.survey-found.new.halfway half-size
 
@@ -208,7 +216,7 @@ module _ (c : Joined-rises) where
   module _ (n : Book)
       (moved : (s : ℕ) → s < T.states → get_or (vec_items n.vector) s (pos 0)
       ≡ cond (states_of T k s && not c.apart-held.result) (get_or c.survey-found.new.halfway s (pos 0) -ℤ c.survey-found.result.least) (get_or (vec_items b.vector) s (pos 0)))
-      (size : length (vec_items n.vector) ≡ T.states) (same : record { vector = n.vector; recorded = c.if-rises.book.recorded; lo = c.if-rises.book.lo; hi = c.if-rises.book.hi; x = c.if-rises.book.x; y = c.if-rises.book.y; plan = c.if-rises.book.plan; halfway = c.if-rises.book.halfway; marks = c.if-rises.book.marks; distances = c.if-rises.book.distances } ≡ n) where
+      (size : length (vec_items n.vector) ≡ T.states) (same : record { vector = n.vector; recorded = c.if-rises.book.recorded; lo = c.if-rises.book.lo; hi = c.if-rises.book.hi; x = c.if-rises.book.x; y = c.if-rises.book.y; plan = c.if-rises.book.plan; halfway = c.if-rises.book.halfway; marks = c.if-rises.book.marks; distances = c.if-rises.book.distances } ≡ n) (room : HasRoom n) where
     next : (book_of n ≡ step M k (book_of b)) × Kept T n
     next =
         let m = joined.0 in
@@ -217,7 +225,8 @@ module _ (c : Joined-rises) where
         at-half at_mark is-least is_held is-rising moved joined.2 size joined.1
         (ap (λ (a : Book). vec_items a.lo) m ∙ lo-is) (ap (λ (a : Book). vec_items a.hi) m ∙ hi-is)
         (ap (λ (a : Book). vec_items a.x) m) (ap (λ (a : Book). vec_items a.y) m) (ap (λ (a : Book). vec_items a.plan) m)
-        (ap (λ (a : Book). vec_len a.halfway) m ∙ K.halfway) (ap (λ (a : Book). vec_len a.marks) m ∙ K.marks) (ap (λ (a : Book). vec_len a.distances) m ∙ K.distances))
+        (ap (λ (a : Book). vec_len a.halfway) m ∙ K.halfway) (ap (λ (a : Book). vec_len a.marks) m ∙ K.marks) (ap (λ (a : Book). vec_len a.distances) m ∙ K.distances)
+        (subst HasRoom (sym same) room))
 
 pub shift-requires : goal.shift-requires
 shift-requires c =
@@ -277,7 +286,7 @@ returns-then-not-held c =
     ∙ ap (λ (l : List ℤ). cond (states_of T k s) (get_or c.survey-found.new.halfway s (pos 0) -ℤ c.survey-found.result.least) (get_or l s (pos 0))) old
     ∙ ap (λ (x : Bool). cond x (get_or c.survey-found.new.halfway s (pos 0) -ℤ c.survey-found.result.least) (get_or (vec_items b.vector) s (pos 0)))
     (sym (and_on (states_of T k s) (not c.apart-held.result) on)))
-    (ap (λ (l : List ℤ). length l) i ∙ size) refl in
+    (ap (λ (l : List ℤ). length l) i ∙ size) refl (full j) in
     record { book = r.0; held = is_held j ∙ ap (λ (u : ℕ → ℕ). held (setting_of T) u k) (same_vector (vec_items b.vector)); kept = r.1 }
 
 pub returns-else-not-held : goal.returns-else-not-held
@@ -293,5 +302,5 @@ returns-else-not-held c =
     (λ s h. ap (λ (l : List ℤ). get_or l s (pos 0)) i
     ∙ sym (cond-false (states_of T k s && not c.apart-held.result) (get_or c.survey-found.new.halfway s (pos 0) -ℤ c.survey-found.result.least) (get_or (vec_items b.vector) s (pos 0))
     (and_right (states_of T k s) (not c.apart-held.result) off)))
-    (kept_size T b (K j) _ i) refl in
+    (kept_size T b (K j) _ i) refl (full j) in
     record { book = r.0; held = is_held j ∙ ap (λ (u : ℕ → ℕ). held (setting_of T) u k) (same_vector (vec_items b.vector)); kept = r.1 }

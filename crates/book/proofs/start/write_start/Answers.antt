@@ -1,4 +1,4 @@
-use Rattle.std.proofs.Common.{◌≡◌, ℕ, List, replicate, ℤ, pos, refl, ◌∙◌, ap₂, w64, SFits, rules}
+use Rattle.std.proofs.Common.{◌≡◌, ℕ, List, replicate, ℤ, pos, refl, ◌∙◌, ap₂, w64, SFits, rules, arith}
 use Rattle.std.proofs.lemmas.List.{with_items_is}
 use Rattle.std.proofs.lemmas.Int.{to_z-of_z}
 use Rattle.table.specs.Table.{Table}
@@ -31,4 +31,16 @@ returns c =
       halfway = S.halfway;
       marks = S.marks;
       distances = S.distances;
+      room = (
+          let a = c.fill.ensures.capacity in let r = S.room.0 in omega arith,
+          S.room.1,
+          let a = c.fill-2.ensures.capacity in let r = S.room.2 in omega arith,
+          let a = c.fill-3.ensures.capacity in let r = S.room.3 in omega arith,
+          let a = c.fill-4.ensures.capacity in let r = S.room.4 in omega arith,
+          let a = c.fill-5.ensures.capacity in let r = S.room.5 in omega arith,
+          S.room.6,
+          S.room.7,
+          S.room.8,
+          S.room.9,
+        );
     }

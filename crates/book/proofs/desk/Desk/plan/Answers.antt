@@ -39,7 +39,7 @@ pub invariant_of-self : goal.invariant_of-self
 invariant_of-self c =
     let d = c.args.self.now in
     let K = keeps_true (desk_table d) d.book d.kept in
-    record { kept = keeps_from (desk_table d) _ (record { fit = K.fit; natural = K.natural; halfway = K.halfway; marks = K.marks; distances = K.distances }) }
+    record { kept = keeps_from (desk_table d) _ (record { fit = K.fit; natural = K.natural; halfway = K.halfway; marks = K.marks; distances = K.distances; room = K.room }) }
 
 pub returns : goal.returns
 returns c =

@@ -1,6 +1,0 @@
-use Rattle.book.specs.Layouts.{layout_table}
-use Rattle.book.proofs.Keeps.{keeps_from}
-use Rattle.book.proofs.desk.Desk.open.Goals as goal
-
-pub invariant_of-result : goal.invariant_of-result
-invariant_of-result g c = record { kept = keeps_from (layout_table c.in_ok-layout.layout) c.in_ok-book.book c.in_ok-book.ensures.kept }
