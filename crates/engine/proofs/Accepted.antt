@@ -1,8 +1,7 @@
 -- What an accepted call answers and leaves.
-use Rattle.std.proofs.Common.{◌≡◌, ℕ, ◌<◌, ◌≤◌, Bool, true, false, cond, ◌&&◌, ltb, leb, List, ◌++◌, length, drop, ℤ, pos, ◌-ℤ◌, Some, None, Option, Ok, Err, Result, MatchResult, IsErrAnd, sym, refl, ap, ◌∙◌, ap₂, subst}
+use Rattle.std.proofs.Common.{◌≡◌, ℕ, ◌<◌, ◌≤◌, Bool, true, cond, ◌&&◌, ltb, leb, List, ◌++◌, length, drop, ℤ, pos, ◌-ℤ◌, Some, None, Option, sym, refl, ap, ◌∙◌, ap₂}
 use lib.Signed.{le_z}
 use Rattle.std.proofs.lemmas.Bool.{and_from, cond-true, lt-ltb, le-leb}
-use Rattle.std.proofs.lemmas.Result.{err_from_is_err_and}
 use Rattle.table.specs.Table.{Table}
 use Rattle.table.specs.Walk.{fault_of}
 use Rattle.table.specs.declared.fault.Fault.{Fault}
@@ -17,20 +16,12 @@ use Rattle.rules.specs.Play.{play}
 use Rattle.rules.specs.Promises.{upper_at, lower_at}
 use Rattle.rules.specs.Runs.{changed}
 use Rattle.rules.specs.Runs as change
-use Rattle.model.specs.Loads.{RefusedLoad}
-use Rattle.model.specs.declared.fault.LoadFault.{LoadFault}
-use Rattle.model.specs.declared.fault.LoadFault.TheVariants.{Limit, Memory}
 use Rattle.book.specs.Desks.{desk_table, desk_book, AtStart, steps_made, bounds_at, plan_in}
 use Rattle.book.specs.declared.desk.Desk.{Desk}
-use Rattle.history.specs.Calls.{State, idle, loaded, standing, refines, sweeping, close, quote, plan, count_within, fresh, opened, after_call, next}
-use Rattle.history.specs.Answers.{refused, done, stands, refined, swept, quoted, planned, refine_answer, quote_answer, plan_answer, answer_loaded, answer}
-use Rattle.history.specs.Refusals.{refusal_of}
-use Rattle.history.specs.declared.refusal.Refusal.{Refusal}
+use Rattle.history.specs.Calls.{State, idle, loaded, load, standing, refines, sweeping, close, quote, plan, count_within, fresh, opened, after_call, next}
+use Rattle.history.specs.Answers.{Answer, refused, done, stands, refined, swept, quoted, planned, refine_answer, quote_answer, plan_answer, answer_loaded, answer}
 use Rattle.history.specs.declared.refusal.Refusal.TheVariants as refusal
-use Rattle.history.proofs.Histories.{every_history}
 use Rattle.history.proofs.Refusing.{answer_broken, answer_kept, after_broken, after_kept, next_load, load-answer}
-use Rattle.engine.specs.States.{held_state}
-use Rattle.engine.specs.Opens.{Opens, Loads}
 
 module _ (T : Table) (B : Book) where
   -- a refine of an existing component
@@ -115,43 +106,25 @@ unbroken T d a = (walk_law T).lawful.1 a.lawful
 at_start : (T : Table) (d : Desk) → AtStart T d → loaded (desk_table d) (desk_book d) ≡ fresh T
 at_start T d a = ap₂ loaded a.same a.start
 
-opened_by : (T : Table) (memory : Bool) (o : Option Fault) → fault_of T ≡ o
-    → opened T memory ≡ elim o [ Some e ↦ idle (refusal.Table e) | None ↦ cond memory (fresh T) (idle refusal.Memory) ]
+opens : (T : Table) (o : Option Fault) → fault_of T ≡ o → opened T ≡ elim o [ Some e ↦ idle (refusal.Table e) | None ↦ fresh T ]
 unfolding opened
-opened_by T memory o h = ap (λ (o : Option Fault). elim o [ Some e ↦ idle (refusal.Table e) | None ↦ cond memory (fresh T) (idle refusal.Memory) ]) h
+opens T o h = ap (λ (o : Option Fault). elim o [ Some e ↦ idle (refusal.Table e) | None ↦ fresh T ]) h
 
-pub open_loaded : (T : Table) (d : Desk) → AtStart T d → Opens T (loaded (desk_table d) (desk_book d))
-open_loaded T d a = record { memory = true; holds = at_start T d a ∙ sym (opened_by T true None (unbroken T d a)); law = every_history T true }
+pub open_loaded : (T : Table) (d : Desk) → AtStart T d → loaded (desk_table d) (desk_book d) ≡ opened T
+open_loaded T d a = at_start T d a ∙ sym (opens T None (unbroken T d a))
 
-pub open_idle : (T : Table) (f : LoadFault) (e : Refusal) → RefusedLoad T f → e ≡ refusal_of f → Opens T (idle e)
-open_idle T (Limit b) e h r = record { memory = true; holds = ap idle r ∙ sym (opened_by T true (Some b) h); law = every_history T true }
-open_idle T Memory e h r = record { memory = false; holds = ap idle r ∙ sym (opened_by T false None h); law = every_history T false }
+pub open_broken : (T : Table) (e : Fault) → fault_of T ≡ Some e → idle (refusal.Table e) ≡ opened T
+open_broken T e h = sym (opens T (Some e) h)
 
--- a desk as it was opened, or the refusal of what stopped it
-pub open_held : (T : Table) (r : Result Desk LoadFault) (held : Result Desk Refusal) → MatchResult r (AtStart T) (RefusedLoad T)
-    → MatchResult r (λ d. held ≡ Ok d) (λ f. IsErrAnd held (λ e. e ≡ refusal_of f)) → Opens T (held_state held)
-open_held T (Ok d) held a h = subst (λ (x : Result Desk Refusal). Opens T (held_state x)) (sym h) (open_loaded T d a)
-open_held T (Err f) held a h =
-    let p = err_from_is_err_and held h in
-    subst (λ (x : Result Desk Refusal). Opens T (held_state x)) (sym p.1) (open_idle T f p.0 a p.2)
+-- a load's answer, and what it leaves
+pub record LoadGives (T : Table) (R S : State) (a : Answer) : Type 0 where
+  pub answer : a ≡ answer R (load T)
+  pub holds : S ≡ next R (load T)
 
-pub load_loaded : (T : Table) (S : State) (d : Desk) → AtStart T d → Loads T S (loaded (desk_table d) (desk_book d)) done
-load_loaded T S d a =
+pub load_accepted : (T : Table) (R : State) (d : Desk) → AtStart T d → LoadGives T R (loaded (desk_table d) (desk_book d)) done
+load_accepted T R d a =
     let h = unbroken T d a in
-    record {
-      memory = true;
-      answers = sym (load-answer S T true ∙ answer_kept T true h);
-      holds = at_start T d a ∙ sym (next_load S T true ∙ after_kept T true S h);
-    }
+    record { answer = sym (load-answer R T ∙ answer_kept T h); holds = at_start T d a ∙ sym (next_load R T ∙ after_kept T R h) }
 
-pub load_refused : (T : Table) (S : State) (f : LoadFault) (e : Refusal) → RefusedLoad T f → e ≡ refusal_of f → Loads T S S (refused e)
-load_refused T S (Limit b) e h r = record {
-  memory = true;
-  answers = ap refused r ∙ sym (load-answer S T true ∙ answer_broken T true b h);
-  holds = sym (next_load S T true ∙ after_broken T true b S h);
-}
-load_refused T S Memory e h r = record {
-  memory = false;
-  answers = ap refused r ∙ sym (load-answer S T false ∙ answer_kept T false h);
-  holds = sym (next_load S T false ∙ after_kept T false S h);
-}
+pub load_broken : (T : Table) (R : State) (e : Fault) → fault_of T ≡ Some e → LoadGives T R R (refused (refusal.Table e))
+load_broken T R e h = record { answer = sym (load-answer R T ∙ answer_broken T e h); holds = sym (next_load R T ∙ after_broken T e R h) }

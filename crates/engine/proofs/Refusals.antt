@@ -1,5 +1,5 @@
 -- Where a call is refused: the reason, from what standing answers.
-use Rattle.std.proofs.Common.{◌≡◌, ℕ, ◌<◌, ◌≤◌, true, false, List, length, is_err, Ok, Err, Result, sym, ap, ◌∙◌, arith}
+use Rattle.std.proofs.Common.{◌≡◌, ℕ, ◌<◌, ◌≤◌, true, false, List, length, Some, None, Option, sym, refl, ap, ◌∙◌, arith}
 use Rattle.table.specs.Table.{Table}
 use Rattle.components.specs.Nodes.{components}
 use Rattle.rules.specs.Book.{Book}
@@ -75,11 +75,11 @@ module _ (n k : ℕ) where
       let p : length list < T.states = omega (arith, e, l) in
       refuses (loaded T B) (plan list) refusal.Room (no_room p)
 
-  -- an engine that stands holds a table
-  pub not_idle : {P : Type 0} (held : Result Desk Refusal) → stands n k ≡ answer (held_state held) standing → is_err held ≡ true → P
+  -- an engine that stands is not idle
+  pub stands_open : (o : Option Refusal) (d : Desk) → stands n k ≡ answer (held_state o d) standing → o ≡ None
   unfolding answer answer_idle
-  not_idle (Err d) h e = idle_stands d h
-  not_idle (Ok d) h e = let z : ◌≡◌ {A = ℕ} 0 1 = cc in absurd (omega arith)
+  stands_open (Some e) d h = idle_stands e h
+  stands_open None d h = refl
 
   pub components_stand : (S : State) (T : Table) (B : Book) → stands n k ≡ answer S standing → S ≡ loaded T B → k ≡ components T
   unfolding answer answer_loaded

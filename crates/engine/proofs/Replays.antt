@@ -1,11 +1,10 @@
 -- One more call at the end of a list.
-use Rattle.std.proofs.Common.{◌≡◌, ℕ, Bool, List, [], ◌∷◌, ◌++◌, sym, refl, ap, ◌∙◌}
+use Rattle.std.proofs.Common.{◌≡◌, ℕ, List, [], ◌∷◌, ◌++◌, sym, refl, ap, ◌∙◌}
 use Rattle.table.specs.Table.{Table}
 use Rattle.history.specs.Calls.{State, idle, loaded, Call, standing, quote, opened, next, after_idle, after_call, run}
 use Rattle.history.specs.Answers.{Answer, answer, answers}
-use Rattle.engine.specs.Opens.{Opens}
-use Rattle.engine.specs.Replays.{call_of, Makes, StandsFor, Replayed}
-use Rattle.engine.specs.declared.call.Call.{Call as CodeCall}
+use Rattle.history.specs.Histories.{HistoryLaw}
+use Rattle.engine.specs.Replays.{Makes, Replayed}
 
 -- calls that only answer
 pub standing_stays : (S : State) → S ≡ next S standing
@@ -29,23 +28,15 @@ answers_more S [] c = refl
 answers_more S (d ∷ ds) c = ap (λ (bs : List Answer). answer S d ∷ bs) (answers_more (next S d) ds c)
 
 -- right after the open
-pub none_yet : (T : Table) (S : State) → Opens T S → Replayed T [] S []
+pub none_yet : (T : Table) (S : State) → S ≡ opened T → HistoryLaw T → Replayed T [] S []
 unfolding run answers
-none_yet T S o = record { memory = o.memory; holds = o.holds; each = refl; law = o.law }
-
-pub stand_more : {X : Type 0} (table : X → Table) (xs : List (CodeCall X)) (ds : List Call) (x : CodeCall X) (d : Call)
-    → StandsFor table xs ds → (memory : Bool) → d ≡ call_of table x memory → StandsFor table (xs ++ (x ∷ [])) (ds ++ (d ∷ []))
-stand_more table [] [] x d h memory e = ((memory, e), tt)
-stand_more table (y ∷ ys) (d' ∷ ds) x d h memory e = (h.0, stand_more table ys ds x d h.1 memory e)
-stand_more table [] (d' ∷ ds) x d h memory e = absurd h
-stand_more table (y ∷ ys) [] x d h memory e = absurd h
+none_yet T S o law = record { holds = o; each = refl; law = law }
 
 pub replayed_more : (T : Table) (cs : List Call) (S S' : State) (bs : List Answer) (c : Call) (a : Answer)
     → Replayed T cs S bs → Makes c S S' a → Replayed T (cs ++ (c ∷ [])) S' (bs ++ (a ∷ []))
 replayed_more T cs S S' bs c a r m =
-    let O = opened T r.memory in
+    let O = opened T in
     record {
-      memory = r.memory;
       holds = m.holds ∙ ap (λ (R : State). next R c) r.holds ∙ sym (run_more O cs c);
       each =
           ap (λ (l : List Answer). l ++ (a ∷ [])) r.each

@@ -1,4 +1,3 @@
+pub mod Spaces
 pub mod States
-pub mod Opens
 pub mod Replays
-pub mod Lending

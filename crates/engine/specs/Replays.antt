@@ -1,5 +1,5 @@
 -- A list of calls made on one engine, each starting from what the one before left.
-use Rattle.std.specs.Prelude.{◌≡◌, Bool, cond, List, [], ◌∷◌, Ok, Err, Result, replicate, vec_items}
+use Rattle.std.specs.Prelude.{◌≡◌, cond, List, Ok, Err, Result, replicate, vec_items}
 use Rattle.table.specs.Table.{Table}
 use Rattle.history.specs.Calls as history
 use Rattle.history.specs.Answers as answered
@@ -20,32 +20,24 @@ answer_of (Ok (result.Quoted lower upper mark)) = answered.quoted lower upper (c
 answer_of (Ok (result.Planned list)) = answered.planned (vec_items list)
 answer_of (Err e) = answered.refused e
 
--- what each call of the code stands for, by the tables of its sources: a load with memory for it or without
-abbrev pub call_of : {S : Type 0} → (S → Table) → Call S → Bool → history.Call
-call_of table (call.Load source) memory = history.load (table source) memory
-call_of table call.Standing memory = history.standing
-call_of table (call.Refine component steps width) memory = history.refines component steps width
-call_of table (call.Sweep count) memory = history.sweeping count
-call_of table call.Close memory = history.close
-call_of table (call.Quote state width) memory = history.quote state width
-call_of table (call.Plan room) memory = history.plan (replicate room 0)
+-- what each call of the code stands for, by the tables of its sources
+abbrev pub call_of : {S : Type 0} → (S → Table) → Call S → history.Call
+call_of table (call.Load source) = history.load (table source)
+call_of table call.Standing = history.standing
+call_of table (call.Refine component steps width) = history.refines component steps width
+call_of table (call.Sweep count) = history.sweeping count
+call_of table call.Close = history.close
+call_of table (call.Quote state width) = history.quote state width
+call_of table (call.Plan room) = history.plan (replicate room 0)
 
 -- one call, from R to S
 pub record Makes (c : history.Call) (R S : history.State) (a : answered.Answer) : Type 0 where
   pub answers : a ≡ answered.answer R c
   pub holds : S ≡ history.next R c
 
--- the calls are those of the list, each load with memory for it or without
-abbrev pub StandsFor : {S : Type 0} → (S → Table) → List (Call S) → List history.Call → Type 0
-StandsFor table [] [] = Unit {0}
-StandsFor table [] (d ∷ ds) = ⊥
-StandsFor table (c ∷ cs) [] = ⊥
-StandsFor table (c ∷ cs) (d ∷ ds) = ((memory : Bool) × (d ≡ call_of table c memory)) × StandsFor table cs ds
-
 -- An open of the table T and then the calls leave the state S, with these answers.
 -- The law holds after the open and after every list of calls, so after each beginning of this one: in every state that the engine went through.
 pub record Replayed (T : Table) (calls : List history.Call) (S : history.State) (answers : List answered.Answer) : Type 0 where
-  pub memory : Bool
-  pub holds : S ≡ history.run (history.opened T memory) calls
-  pub each : answers ≡ answered.answers (history.opened T memory) calls
-  pub law : HistoryLaw T memory
+  pub holds : S ≡ history.run (history.opened T) calls
+  pub each : answers ≡ answered.answers (history.opened T) calls
+  pub law : HistoryLaw T

@@ -1,5 +1,5 @@
 -- What an engine holds, and what its results stand for.
-use Rattle.std.specs.Prelude.{ℕ, Bool, cond, List, ℤ, Ok, Err, Result}
+use Rattle.std.specs.Prelude.{ℕ, Bool, cond, List, ℤ, Some, None, Option, Ok, Err, Result}
 use Rattle.history.specs.declared.refusal.Refusal.{Refusal}
 use Rattle.history.specs.Calls.{State, idle, loaded}
 use Rattle.history.specs.Answers.{Answer, refused, done, stands, refined, swept, quoted, planned}
@@ -7,13 +7,13 @@ use Rattle.book.specs.Desks.{desk_table, desk_book}
 use Rattle.book.specs.declared.desk.Desk.{Desk}
 use Rattle.engine.specs.declared.engine.Engine.{Engine}
 
--- a table that is loaded, with its book, or the refusal of the open
-abbrev pub held_state : Result Desk Refusal → State
-held_state (Ok d) = loaded (desk_table d) (desk_book d)
-held_state (Err e) = idle e
+-- the refusal of the open, or a table that is loaded, with its book
+abbrev pub held_state : Option Refusal → Desk → State
+held_state (Some e) d = idle e
+held_state None d = loaded (desk_table d) (desk_book d)
 
 abbrev pub state_of : Engine → State
-state_of e = held_state e.held
+state_of e = held_state e.idle e.desk
 
 -- the answer that each call's result stands for
 

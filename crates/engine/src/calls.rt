@@ -1,19 +1,15 @@
-ghost use Rattle.std.specs.Prelude.{◌≡◌, pos, ◌-ℤ◌, int_le, MatchResult, IsErr};
-ghost use Rattle.history.specs.Calls.{next, count_within};
+ghost use Rattle.std.specs.Prelude.{◌≡◌, pos, ◌-ℤ◌, int_le};
+ghost use Rattle.history.specs.Calls.{opened, next, count_within};
 ghost use Rattle.history.specs.Calls.Call.{load as load_call, standing as standing_call, refines, sweeping, close as close_call, quote as quote_call, plan as plan_call};
 ghost use Rattle.history.specs.Answers.{answer};
+ghost use Rattle.history.specs.Histories.{HistoryLaw};
 ghost use Rattle.history.specs.Refusing.{RefusalLaw};
 ghost use Rattle.history.specs.Worked.{Worked};
 ghost use Rattle.engine.specs.States.{state_of, done_answer, stands_answer, refined_answer, swept_answer, quoted_answer, planned_answer, list_after};
-ghost use Rattle.std.specs.Borrow.{sem};
-ghost use Rattle.history.specs.declared.refusal.Refusal.{Refusal};
-ghost use Rattle.engine.specs.Lending.{LendsDesk};
-ghost use Rattle.engine.specs.Opens.{Opens, Loads};
 
 use crate::engine::Engine;
-use book::Desk;
+use crate::space::Space;
 use history::Refusal;
-use std::alloc::Global;
 use table::Source;
 
 // 1 to 1,000
@@ -31,34 +27,28 @@ fn mark(lower: i64, upper: i64, width: u64) -> bool
 }
 
 impl Engine {
-    // The table that is loaded, with its book; without one the call is refused.
-    fn desk(&mut self) -> Result<&mut Desk, Refusal>
-        ensures* lends { sem 𝓛 (LendsDesk self.entry result) }
-        ensures held { MatchResult result (λ d. self.old.held ≡ Ok d.now) (λ e. (e ≡ Refusal.Idle) × IsErr self.old.held) }
-    {
-        match &mut self.held {
-            Ok(desk) => Ok(desk),
-            Err(_) => Err(Refusal::Idle),
-        }
-    }
-
-    // An engine with the source's table at its start; an idle one if it is refused.
-    pub fn open<S: Source>(heap: Global, source: &S) -> Engine
-        ensures opens { Opens (S.table source.now) (state_of result) }
+    // An engine with the source's table at its start; an idle one if the table breaks a limit.
+    pub fn open<S: Source>(space: Space, source: &S) -> Engine
+        ensures opens { state_of result ≡ opened (S.table source.now) }
+        ensures law { HistoryLaw (S.table source.now) }
         ensures refusals { RefusalLaw }
         ensures worked { Worked }
     {
-        Engine {
-            held: Desk::open(heap, source).map_err(Refusal::from),
-        }
+        let mut desk = space.desk;
+        let idle = match desk.load(source) {
+            Ok(()) => None,
+            Err(broken) => Some(Refusal::Table(broken)),
+        };
+        Engine { desk, idle }
     }
 
-    // Puts another table in the place of the one that is loaded. It is checked, copied and decomposed first.
-    pub fn load<S: Source>(&mut self, heap: Global, source: &S) -> Result<(), Refusal>
-        ensures { Loads (S.table source.now) (state_of self.old) (state_of self.new) (done_answer result) }
+    // Puts another table in the place of the one that is loaded. It is checked before anything is written, and no memory is asked for.
+    pub fn load<S: Source>(&mut self, source: &S) -> Result<(), Refusal>
+        ensures answer { done_answer result ≡ answer (state_of self.old) (load_call (S.table source.now)) }
+        ensures holds { state_of self.new ≡ next (state_of self.old) (load_call (S.table source.now)) }
     {
-        let desk = Desk::open(heap, source)?;
-        self.held = Ok(desk);
+        self.desk.load(source)?;
+        self.idle = None;
         Ok(())
     }
 
@@ -66,15 +56,14 @@ impl Engine {
     pub fn standing(&self) -> Result<(u64, u64), Refusal>
         ensures { stands_answer result ≡ answer (state_of self.now) standing_call }
     {
-        match &self.held {
-            Ok(desk) => Ok((desk.states(), desk.components())),
-            Err(refusal) => Err(*refusal),
+        match self.idle {
+            None => Ok((self.desk.states(), self.desk.components())),
+            Some(refusal) => Err(refusal),
         }
     }
 
     // A rule of this project: a refine, and each call below, takes the pair of numbers that standing answers by `let .. else`.
-    // Where that is a refusal, the call is refused as idle, whatever the open was refused with; a desk is then there, and its own way out
-    // (`?` on `desk`, and the second `let .. else` of a quote, which only reads) is never taken.
+    // Where that is a refusal, the call is refused as idle, whatever the open was refused with.
     // Their clauses are alike, what a call answers and what the engine holds then, but each names its own call.
 
     // Steps made in the component, its lo and its hi then.
@@ -96,9 +85,8 @@ impl Engine {
         if !counts(steps) {
             return Err(Refusal::Count);
         }
-        let desk = self.desk()?;
-        let made = desk.refine(component, steps, width);
-        let (lo, hi) = desk.bounds(component);
+        let made = self.desk.refine(component, steps, width);
+        let (lo, hi) = self.desk.bounds(component);
         Ok((made, lo, hi))
     }
 
@@ -113,7 +101,7 @@ impl Engine {
         if !counts(count) {
             return Err(Refusal::Count);
         }
-        Ok(self.desk()?.sweep(count))
+        Ok(self.desk.sweep(count))
     }
 
     // Back to the start of the table that is loaded.
@@ -124,8 +112,7 @@ impl Engine {
         let Ok((_, _)) = self.standing() else {
             return Err(Refusal::Idle);
         };
-        let desk = self.desk()?;
-        desk.close();
+        self.desk.close();
         Ok(())
     }
 
@@ -139,10 +126,7 @@ impl Engine {
         if state >= states {
             return Err(Refusal::State);
         }
-        let Ok(desk) = &self.held else {
-            return Err(Refusal::Idle);
-        };
-        let (lower, upper) = desk.quote(state);
+        let (lower, upper) = self.desk.quote(state);
         Ok((lower, upper, mark(lower, upper, width)))
     }
 
@@ -158,7 +142,7 @@ impl Engine {
         if (list.len() as u64) < states {
             return Err(Refusal::Room);
         }
-        self.desk()?.plan(list);
+        self.desk.plan(list);
         Ok(())
     }
 }

@@ -1,8 +1,9 @@
 use book::Desk;
 use history::Refusal;
 
-// The table that is loaded, with its book, or the refusal of the open.
+// A desk, and of an idle engine the refusal of its open: no call reads an idle engine's desk, which is there for the loads to come.
 #[derive(Drop)]
 pub struct Engine {
-    pub(crate) held: Result<Desk, Refusal>,
+    pub(crate) desk: Desk,
+    pub(crate) idle: Option<Refusal>,
 }

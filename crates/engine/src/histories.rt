@@ -1,10 +1,11 @@
-ghost use Rattle.std.specs.Prelude.{◌≡◌, Bool, List, map, replicate, IfOk};
+ghost use Rattle.std.specs.Prelude.{map, replicate, IfOk};
 ghost use Rattle.history.specs.Calls as history;
 ghost use Rattle.engine.specs.States.{state_of};
-ghost use Rattle.engine.specs.Replays.{answer_of, call_of, StandsFor, Makes, Replayed};
+ghost use Rattle.engine.specs.Replays.{answer_of, call_of, Makes, Replayed};
 
 use crate::call::{Answer, Call};
 use crate::engine::Engine;
+use crate::space::Space;
 use history::Refusal;
 use std::alloc::{AllocError, Global};
 use table::Source;
@@ -28,10 +29,10 @@ fn make<S: Source + Drop>(
     engine: &mut Engine,
     call: &Call<S>,
 ) -> Result<Result<Answer, Refusal>, AllocError>
-    ensures { IfOk result (λ a. (memory : Bool) × Makes (call_of S.table call.now memory) (state_of engine.old) (state_of engine.new) (answer_of a)) }
+    ensures { IfOk result (λ a. Makes (call_of S.table call.now) (state_of engine.old) (state_of engine.new) (answer_of a)) }
 {
     match call {
-        Call::Load(source) => Ok(engine.load(heap, source).map(|()| Answer::Done)),
+        Call::Load(source) => Ok(engine.load(source).map(|()| Answer::Done)),
         Call::Standing => {
             // programs that make this call themselves have the same line: a public function for it would be longer
             let stands = engine.standing();
@@ -61,9 +62,9 @@ pub fn replay<S: Source + Drop>(
     source: &S,
     calls: &[Call<S>],
 ) -> Result<(Engine, Vec<Result<Answer, Refusal>>), AllocError>
-    ensures { IfOk result (λ x. (made : List history.Call) × StandsFor S.table calls.now made × Replayed (S.table source.now) made (state_of x.0) (map answer_of x.1.items)) }
+    ensures { IfOk result (λ x. Replayed (S.table source.now) (map (call_of S.table) calls.now) (state_of x.0) (map answer_of x.1.items)) }
 {
-    let mut engine = Engine::open(heap, source);
+    let mut engine = Engine::open(Space::new(heap)?, source);
     let mut answers = Vec::new(heap);
     // a loop: over `.map(..).try_collect(heap)`, which was tried, nothing is known of the engine that the closure changes
     for call in calls {

@@ -5,7 +5,9 @@ mod call;
 mod calls;
 mod engine;
 mod histories;
+mod space;
 
 pub use call::{Answer, Call};
 pub use engine::Engine;
 pub use histories::replay;
+pub use space::Space;

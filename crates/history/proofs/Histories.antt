@@ -97,14 +97,14 @@ module _ (T : Table) (B : Book) where
 
 -- Opens
 
-module _ (T : Table) (memory : Bool) where
-  open_broken : (e : Fault) → fault_of T ≡ Some e → opened T memory ≡ idle (refusal.Table e)
+module _ (T : Table) where
+  open_broken : (e : Fault) → fault_of T ≡ Some e → opened T ≡ idle (refusal.Table e)
   unfolding opened
-  open_broken e h = ap (λ (o : Option Fault). elim o [ Some d ↦ idle (refusal.Table d) | None ↦ cond memory (fresh T) (idle refusal.Memory) ]) h
+  open_broken e h = ap (λ (o : Option Fault). elim o [ Some d ↦ idle (refusal.Table d) | None ↦ fresh T ]) h
 
-  open_kept : fault_of T ≡ None → opened T memory ≡ cond memory (fresh T) (idle refusal.Memory)
+  open_kept : fault_of T ≡ None → opened T ≡ fresh T
   unfolding opened
-  open_kept h = ap (λ (o : Option Fault). elim o [ Some d ↦ idle (refusal.Table d) | None ↦ cond memory (fresh T) (idle refusal.Memory) ]) h
+  open_kept h = ap (λ (o : Option Fault). elim o [ Some d ↦ idle (refusal.Table d) | None ↦ fresh T ]) h
 
 -- Every history
 
@@ -121,24 +121,24 @@ good_either : (b : Bool) (R S : State) → Good R → Good S → Good (cond b R 
 good_either true R S p q = p
 good_either false R S p q = q
 
-good_open : (T : Table) (memory : Bool) → Good (opened T memory)
+good_open : (T : Table) → Good (opened T)
 unfolding Good
-good_open T memory =
+good_open T =
     elim (found_or_none (fault_of T)) [
-      | inl h ↦ subst Good (sym (open_kept T memory h)) (good_either memory (fresh T) (idle refusal.Memory) (good_fresh T h) tt)
-      | inr w ↦ subst Good (sym (open_broken T memory w.0 w.1)) tt
+      | inl h ↦ subst Good (sym (open_kept T h)) (good_fresh T h)
+      | inr w ↦ subst Good (sym (open_broken T w.0 w.1)) tt
     ]
 
-good_load : (T : Table) (memory : Bool) (S : State) → Good S → Good (after_load T memory S)
-good_load T memory S g =
+good_load : (T : Table) (S : State) → Good S → Good (after_load T S)
+good_load T S g =
     elim (found_or_none (fault_of T)) [
-      | inl h ↦ subst Good (sym (after_kept T memory S h)) (good_either memory (fresh T) S (good_fresh T h) g)
-      | inr w ↦ subst Good (sym (after_broken T memory w.0 S w.1)) g
+      | inl h ↦ subst Good (sym (after_kept T S h)) (good_fresh T h)
+      | inr w ↦ subst Good (sym (after_broken T w.0 S w.1)) g
     ]
 
 good_call : (T : Table) (B : Book) (c : Call) → Good (loaded T B) → Good (after_call T B c)
 unfolding Good after_call
-good_call T B (load T' memory) g = good_load T' memory (loaded T B) g
+good_call T B (load T') g = good_load T' (loaded T B) g
 good_call T B standing g = g
 good_call T B (refines k n width) g =
     elim (cases_Bool (ltb k (components T) && count_within n)) [
@@ -156,7 +156,7 @@ good_call T B (plan list) g = g
 
 good_idle : (e : Refusal) (c : Call) → Good (after_idle e c)
 unfolding Good after_idle
-good_idle e (load T memory) = good_load T memory (idle e) tt
+good_idle e (load T) = good_load T (idle e) tt
 good_idle e standing = tt
 good_idle e (refines k n width) = tt
 good_idle e (sweeping n) = tt
@@ -228,22 +228,17 @@ record Onward (T : Table) (B : Book) (S : State) : Type 0 where
 stays : (T : Table) (B : Book) → Good (loaded T B) → Onward T B (loaded T B)
 stays T B g = record { book = B; held = refl; good = g; tighter = still (setting_of T) B }
 
-quiet_load : (T : Table) (B : Book) → Good (loaded T B) → (T' : Table) (memory : Bool) → (load_answer T' memory ≡ done → ⊥)
-    → Onward T B (after_load T' memory (loaded T B))
-quiet_load T B g T' true n =
+quiet_load : (T : Table) (B : Book) → Good (loaded T B) → (T' : Table) → (load_answer T' ≡ done → ⊥)
+    → Onward T B (after_load T' (loaded T B))
+quiet_load T B g T' n =
     elim (found_or_none (fault_of T')) [
-      | inl h ↦ absurd (n (answer_kept T' true h))
-      | inr w ↦ subst (Onward T B) (sym (after_broken T' true w.0 (loaded T B) w.1)) (stays T B g)
-    ]
-quiet_load T B g T' false n =
-    elim (found_or_none (fault_of T')) [
-      | inl h ↦ subst (Onward T B) (sym (after_kept T' false (loaded T B) h)) (stays T B g)
-      | inr w ↦ subst (Onward T B) (sym (after_broken T' false w.0 (loaded T B) w.1)) (stays T B g)
+      | inl h ↦ absurd (n (answer_kept T' h))
+      | inr w ↦ subst (Onward T B) (sym (after_broken T' w.0 (loaded T B) w.1)) (stays T B g)
     ]
 
 quiet_call : (T : Table) (B : Book) → Good (loaded T B) → (c : Call) → (answer_loaded T B c ≡ done → ⊥) → Onward T B (after_call T B c)
 unfolding Good answer_loaded after_call
-quiet_call T B g (load T' memory) n = quiet_load T B g T' memory n
+quiet_call T B g (load T') n = quiet_load T B g T' n
 quiet_call T B g standing n = stays T B g
 quiet_call T B g (refines k m width) n =
     let both = ltb k (components T) && count_within m in
@@ -300,11 +295,11 @@ tight_good (loaded T' B) T later g h q =
     (subst (λ (S : State). Holds S T' × Tighter (loaded T' B) S T') (sym o.held) (refl, tighter_answers T' B o.book o.tighter))
 
 pub every_history : EveryHistory
-every_history T memory =
-    let good : (calls : List Call) → Good (run (opened T memory) calls) = λ calls. good_run (opened T memory) calls (good_open T memory) in
+every_history T =
+    let good : (calls : List Call) → Good (run (opened T) calls) = λ calls. good_run (opened T) calls (good_open T) in
     record {
-      lawful = λ calls R h. lawful_good (run (opened T memory) calls) R (good calls) h;
-      upper = λ calls R h. upper_good (run (opened T memory) calls) R (good calls) h;
-      lower = λ calls R h. lower_good (run (opened T memory) calls) R (good calls) h;
-      tight = λ calls later R h q. tight_good (run (opened T memory) calls) R later (good calls) h q;
+      lawful = λ calls R h. lawful_good (run (opened T) calls) R (good calls) h;
+      upper = λ calls R h. upper_good (run (opened T) calls) R (good calls) h;
+      lower = λ calls R h. lower_good (run (opened T) calls) R (good calls) h;
+      tight = λ calls later R h q. tight_good (run (opened T) calls) R later (good calls) h q;
     }

@@ -11,7 +11,7 @@ use Rattle.rules.specs.Refine.{refine}
 use Rattle.rules.specs.Sweep.{sweeps}
 use Rattle.history.specs.Calls.{State, idle, loaded, Call, load, standing, refines, sweeping, close, quote, plan, count_within, fresh, opened, after_load, after_call, after_idle, next, run}
 use Rattle.history.specs.Answers.{refused, done, stands, swept, load_answer, refine_answer, quote_answer, plan_answer, answer_loaded, answer_idle, answer, answers}
-use Rattle.history.specs.Refusing.{NeedsTable, Miscounted, Reason, broken, no_memory, unopened, needed, no_component, bad_steps, bad_sweeps, no_state, no_room, AsOpened, RefusalLaw}
+use Rattle.history.specs.Refusing.{NeedsTable, Miscounted, Reason, broken, unopened, needed, no_component, bad_steps, bad_sweeps, no_state, no_room, AsOpened, RefusalLaw}
 use Rattle.history.specs.declared.refusal.Refusal.{Refusal}
 use Rattle.history.specs.declared.refusal.Refusal.TheVariants as refusal
 
@@ -44,43 +44,36 @@ not_within n h =
 
 -- Loads
 
-module _ (T : Table) (memory : Bool) where
-  pub answer_broken : (e : Fault) → fault_of T ≡ Some e → load_answer T memory ≡ refused (refusal.Table e)
+module _ (T : Table) where
+  pub answer_broken : (e : Fault) → fault_of T ≡ Some e → load_answer T ≡ refused (refusal.Table e)
   unfolding load_answer
-  answer_broken e h = ap (λ (o : Option Fault). elim o [ Some d ↦ refused (refusal.Table d) | None ↦ cond memory done (refused refusal.Memory) ]) h
+  answer_broken e h = ap (λ (o : Option Fault). elim o [ Some d ↦ refused (refusal.Table d) | None ↦ done ]) h
 
-  pub answer_kept : fault_of T ≡ None → load_answer T memory ≡ cond memory done (refused refusal.Memory)
+  pub answer_kept : fault_of T ≡ None → load_answer T ≡ done
   unfolding load_answer
-  answer_kept h = ap (λ (o : Option Fault). elim o [ Some d ↦ refused (refusal.Table d) | None ↦ cond memory done (refused refusal.Memory) ]) h
+  answer_kept h = ap (λ (o : Option Fault). elim o [ Some d ↦ refused (refusal.Table d) | None ↦ done ]) h
 
-  pub after_broken : (e : Fault) (S : State) → fault_of T ≡ Some e → after_load T memory S ≡ S
+  pub after_broken : (e : Fault) (S : State) → fault_of T ≡ Some e → after_load T S ≡ S
   unfolding after_load
-  after_broken e S h = ap (λ (o : Option Fault). elim o as (λ _. State) [ Some d ↦ S | None ↦ cond memory (fresh T) S ]) h
+  after_broken e S h = ap (λ (o : Option Fault). elim o as (λ _. State) [ Some d ↦ S | None ↦ fresh T ]) h
 
-  pub after_kept : (S : State) → fault_of T ≡ None → after_load T memory S ≡ cond memory (fresh T) S
+  pub after_kept : (S : State) → fault_of T ≡ None → after_load T S ≡ fresh T
   unfolding after_load
-  after_kept S h = ap (λ (o : Option Fault). elim o as (λ _. State) [ Some d ↦ S | None ↦ cond memory (fresh T) S ]) h
+  after_kept S h = ap (λ (o : Option Fault). elim o as (λ _. State) [ Some d ↦ S | None ↦ fresh T ]) h
 
-load_reason : (S : State) (T : Table) (memory : Bool) (e : Refusal) → load_answer T memory ≡ refused e → Reason S (load T memory) e
-load_reason S T true e h =
+load_reason : (S : State) (T : Table) (e : Refusal) → load_answer T ≡ refused e → Reason S (load T) e
+load_reason S T e h =
     elim (found_or_none (fault_of T)) [
-      | inl k ↦ never e (sym (answer_kept T true k) ∙ h)
-      | inr w ↦ moved (refusal.Table w.0) e (broken w.1) (sym (answer_broken T true w.0 w.1) ∙ h)
-    ]
-load_reason S T false e h =
-    elim (found_or_none (fault_of T)) [
-      | inl k ↦ moved refusal.Memory e (no_memory k) (sym (answer_kept T false k) ∙ h)
-      | inr w ↦ moved (refusal.Table w.0) e (broken w.1) (sym (answer_broken T false w.0 w.1) ∙ h)
+      | inl k ↦ never e (sym (answer_kept T k) ∙ h)
+      | inr w ↦ moved (refusal.Table w.0) e (broken w.1) (sym (answer_broken T w.0 w.1) ∙ h)
     ]
 
-load_unchanged : (S : State) (T : Table) (memory : Bool) (e : Refusal) → load_answer T memory ≡ refused e → after_load T memory S ≡ S
-load_unchanged S T true e h =
+load_unchanged : (S : State) (T : Table) (e : Refusal) → load_answer T ≡ refused e → after_load T S ≡ S
+load_unchanged S T e h =
     elim (found_or_none (fault_of T)) [
-      | inl k ↦ never e (sym (answer_kept T true k) ∙ h)
-      | inr w ↦ after_broken T true w.0 S w.1
+      | inl k ↦ never e (sym (answer_kept T k) ∙ h)
+      | inr w ↦ after_broken T w.0 S w.1
     ]
-load_unchanged S T false e h =
-    elim (found_or_none (fault_of T)) [ inl k ↦ after_kept T false S k | inr w ↦ after_broken T false w.0 S w.1 ]
 
 -- Calls of a loaded engine
 
@@ -105,7 +98,7 @@ module _ (T : Table) (B : Book) where
 
   loaded_reason : (c : Call) (e : Refusal) → answer_loaded T B c ≡ refused e → Reason (loaded T B) c e
   unfolding answer_loaded
-  loaded_reason (load T' memory) e h = load_reason (loaded T B) T' memory e h
+  loaded_reason (load T') e h = load_reason (loaded T B) T' e h
   loaded_reason standing e h = stands_accepted T.states (components T) e h
   loaded_reason (refines k n width) e h =
       let inner = cond (count_within n) (refine_answer T B k n width) (refused refusal.Count) in
@@ -142,7 +135,7 @@ module _ (T : Table) (B : Book) where
 
 idle_reason : (d : Refusal) (c : Call) (e : Refusal) → answer_idle d c ≡ refused e → Reason (idle d) c e
 unfolding answer_idle
-idle_reason d (load T memory) e h = load_reason (idle d) T memory e h
+idle_reason d (load T) e h = load_reason (idle d) T e h
 idle_reason d standing e h = moved d e unopened h
 idle_reason d (refines k n width) e h = moved refusal.Idle e (needed tt) h
 idle_reason d (sweeping n) e h = moved refusal.Idle e (needed tt) h
@@ -157,14 +150,14 @@ has_reason (loaded T B) c e h = loaded_reason T B c e h
 
 -- What a reason gives
 
-pub load-answer : (S : State) (T : Table) (memory : Bool) → answer S (load T memory) ≡ load_answer T memory
+pub load-answer : (S : State) (T : Table) → answer S (load T) ≡ load_answer T
 unfolding answer answer_idle answer_loaded
-load-answer (idle d) T memory = refl
-load-answer (loaded T' B) T memory = refl
+load-answer (idle d) T = refl
+load-answer (loaded T' B) T = refl
 
 needs_table_refused : (d : Refusal) (c : Call) → NeedsTable c → answer_idle d c ≡ refused refusal.Idle
 unfolding answer_idle
-needs_table_refused d (load T memory) n = absurd n
+needs_table_refused d (load T) n = absurd n
 needs_table_refused d standing n = absurd n
 needs_table_refused d (refines k m width) n = refl
 needs_table_refused d (sweeping m) n = refl
@@ -174,8 +167,7 @@ needs_table_refused d (plan list) n = refl
 
 refused_by : (S : State) (c : Call) (e : Refusal) → Reason S c e → answer S c ≡ refused e
 unfolding answer answer_idle answer_loaded
-refused_by S c e (broken {T} {memory} {e = d} h) = load-answer S T memory ∙ answer_broken T memory d h
-refused_by S c e (no_memory {T} h) = load-answer S T false ∙ answer_kept T false h
+refused_by S c e (broken {T} {e = d} h) = load-answer S T ∙ answer_broken T d h
 refused_by S c e unopened = refl
 refused_by (idle d) c e (needed n) = needs_table_refused d c n
 refused_by S c e (no_component {T} {B} {k} {n} {width} h) =
@@ -192,7 +184,7 @@ refused_by S c e (no_room {T} {B} {list} h) =
 
 loaded_unchanged : (T : Table) (B : Book) (c : Call) (e : Refusal) → answer_loaded T B c ≡ refused e → after_call T B c ≡ loaded T B
 unfolding answer_loaded after_call
-loaded_unchanged T B (load T' memory) e h = load_unchanged (loaded T B) T' memory e h
+loaded_unchanged T B (load T') e h = load_unchanged (loaded T B) T' e h
 loaded_unchanged T B standing e h = refl
 loaded_unchanged T B (refines k n width) e h =
     let both = ltb k (components T) && count_within n in
@@ -217,7 +209,7 @@ loaded_unchanged T B (plan list) e h = refl
 
 idle_unchanged : (d : Refusal) (c : Call) (e : Refusal) → answer_idle d c ≡ refused e → after_idle d c ≡ idle d
 unfolding answer_idle after_idle
-idle_unchanged d (load T memory) e h = load_unchanged (idle d) T memory e h
+idle_unchanged d (load T) e h = load_unchanged (idle d) T e h
 idle_unchanged d standing e h = refl
 idle_unchanged d (refines k n width) e h = refl
 idle_unchanged d (sweeping n) e h = refl
@@ -232,66 +224,59 @@ unchanged (loaded T B) c e h = loaded_unchanged T B c e h
 
 -- An accepted load
 
-pub next_load : (S : State) (T : Table) (memory : Bool) → next S (load T memory) ≡ after_load T memory S
+pub next_load : (S : State) (T : Table) → next S (load T) ≡ after_load T S
 unfolding next after_idle after_call
-next_load (idle d) T memory = refl
-next_load (loaded T' B) T memory = refl
+next_load (idle d) T = refl
+next_load (loaded T' B) T = refl
 
-opens : (T : Table) → fault_of T ≡ None → opened T true ≡ fresh T
+opens : (T : Table) → fault_of T ≡ None → opened T ≡ fresh T
 unfolding opened
 opens T h = ap (λ (o : Option Fault). elim o [ Some e ↦ idle (refusal.Table e) | None ↦ fresh T ]) h
 
-pub forgets : (S : State) (calls : List Call) (T : Table) → fault_of T ≡ None → run S (calls ++ (load T true ∷ [])) ≡ opened T true
+pub forgets : (S : State) (calls : List Call) (T : Table) → fault_of T ≡ None → run S (calls ++ (load T ∷ [])) ≡ opened T
 unfolding run
-forgets S [] T h = next_load S T true ∙ after_kept T true S h ∙ sym (opens T h)
+forgets S [] T h = next_load S T ∙ after_kept T S h ∙ sym (opens T h)
 forgets S (c ∷ cs) T h = forgets (next S c) cs T h
 
 closes : (T : Table) (B : Book) → next (loaded T B) close ≡ fresh T
 unfolding next after_call
 closes T B = refl
 
-reopens : (T : Table) (B : Book) → fault_of T ≡ None → next (loaded T B) close ≡ opened T true
+reopens : (T : Table) (B : Book) → fault_of T ≡ None → next (loaded T B) close ≡ opened T
 reopens T B h = closes T B ∙ sym (opens T h)
 
 -- A fault of an earlier load
 
-as_opened : (S : State) (T : Table) → S ≡ opened T true → AsOpened S T
+as_opened : (S : State) (T : Table) → S ≡ opened T → AsOpened S T
 as_opened S T h = record {
   holds = h;
   answers = λ later. ap (λ (R : State). answers R later) h;
   leads = λ later. ap (λ (R : State). run R later) h;
 }
 
--- an accepted load has a table that keeps all limits, and memory for it
-accepted : (T : Table) (memory : Bool) → load_answer T memory ≡ done → (fault_of T ≡ None) × (memory ≡ true)
-accepted T true h =
+-- an accepted load has a table that keeps all limits
+accepted : (T : Table) → load_answer T ≡ done → fault_of T ≡ None
+accepted T h =
     elim (found_or_none (fault_of T)) [
-      | inl k ↦ (k, refl)
-      | inr w ↦ never (refusal.Table w.0) (sym h ∙ answer_broken T true w.0 w.1)
-    ]
-accepted T false h =
-    elim (found_or_none (fault_of T)) [
-      | inl k ↦ never refusal.Memory (sym h ∙ answer_kept T false k)
-      | inr w ↦ never (refusal.Table w.0) (sym h ∙ answer_broken T false w.0 w.1)
+      | inl k ↦ k
+      | inr w ↦ never (refusal.Table w.0) (sym h ∙ answer_broken T w.0 w.1)
     ]
 
 -- the last load of a list decides
 last_load : (S : State) (calls : List Call) (c : Call) (T : Table) → fault_of T ≡ None
-    → run S (calls ++ (c ∷ load T true ∷ [])) ≡ opened T true
+    → run S (calls ++ (c ∷ load T ∷ [])) ≡ opened T
 unfolding run
 last_load S [] c T h = forgets S (c ∷ []) T h
 last_load S (d ∷ ds) c T h = last_load (next S d) ds c T h
 
-old_fault : (first faulty T : Table) (enough memory spare : Bool) (calls : List Call) (e : Refusal)
-    → answer (run (opened first enough) calls) (load faulty memory) ≡ refused e
-    → answer (run (opened first enough) (calls ++ (load faulty memory ∷ []))) (load T spare) ≡ done
-    → AsOpened (run (opened first enough) (calls ++ (load faulty memory ∷ load T spare ∷ []))) T
-old_fault first faulty T enough memory spare calls e r a =
-    let before : State = run (opened first enough) (calls ++ (load faulty memory ∷ [])) in
-    let k = accepted T spare (sym (load-answer before T spare) ∙ a) in
-    as_opened (run (opened first enough) (calls ++ (load faulty memory ∷ load T spare ∷ []))) T
-    (ap (λ (m : Bool). run (opened first enough) (calls ++ (load faulty memory ∷ load T m ∷ []))) k.1
-    ∙ last_load (opened first enough) calls (load faulty memory) T k.0)
+old_fault : (first faulty T : Table) (calls : List Call) (e : Refusal)
+    → answer (run (opened first) calls) (load faulty) ≡ refused e
+    → answer (run (opened first) (calls ++ (load faulty ∷ []))) (load T) ≡ done
+    → AsOpened (run (opened first) (calls ++ (load faulty ∷ load T ∷ []))) T
+old_fault first faulty T calls e r a =
+    let before : State = run (opened first) (calls ++ (load faulty ∷ [])) in
+    let k = accepted T (sym (load-answer before T) ∙ a) in
+    as_opened (run (opened first) (calls ++ (load faulty ∷ load T ∷ []))) T (last_load (opened first) calls (load faulty) T k)
 
 pub refusal_law : RefusalLaw
 refusal_law = record {

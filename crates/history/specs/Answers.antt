@@ -1,5 +1,5 @@
 -- What each call answers.
-use Rattle.std.specs.Prelude.{ℕ, Bool, cond, List, [], ◌∷◌, ◌++◌, length, drop, ℤ, pos, ◌-ℤ◌, Some, None, int_le, nat_le, nat_lt}
+use Rattle.std.specs.Prelude.{ℕ, cond, List, [], ◌∷◌, ◌++◌, length, drop, ℤ, pos, ◌-ℤ◌, Some, None, int_le, nat_le, nat_lt}
 use Rattle.table.specs.Table.{Table}
 use Rattle.table.specs.Walk.{fault_of}
 use Rattle.components.specs.Nodes.{components}
@@ -30,11 +30,11 @@ pub data Answer : Type 0 where
   planned : List ℕ → Answer
 
 -- a load
-unfoldable pub load_answer : Table → Bool → Answer
-load_answer T memory =
+unfoldable pub load_answer : Table → Answer
+load_answer T =
     elim (fault_of T) [
       | Some e ↦ refused (refusal.Table e)
-      | None ↦ cond memory done (refused refusal.Memory)
+      | None ↦ done
     ]
 
 -- a refine of an existing component
@@ -55,7 +55,7 @@ plan_answer T B list = planned (tabulate T.states (play T B) ++ drop T.states li
 
 -- a loaded engine; no such component comes before a count outside its limits
 unfoldable pub answer_loaded : Table → Book → Call → Answer
-answer_loaded T B (load T' memory) = load_answer T' memory
+answer_loaded T B (load T') = load_answer T'
 answer_loaded T B standing = stands T.states (components T)
 answer_loaded T B (refines k n width) =
     cond (nat_lt k (components T)) (cond (count_within n) (refine_answer T B k n width) (refused refusal.Count)) (refused refusal.Component)
@@ -66,7 +66,7 @@ answer_loaded T B (plan list) = cond (nat_le T.states (length list)) (plan_answe
 
 -- an idle engine: standing answers the refusal of its open, and what needs a table is refused
 unfoldable pub answer_idle : Refusal → Call → Answer
-answer_idle e (load T memory) = load_answer T memory
+answer_idle e (load T) = load_answer T
 answer_idle e standing = refused e
 answer_idle e (refines k n width) = refused refusal.Idle
 answer_idle e (sweeping n) = refused refusal.Idle

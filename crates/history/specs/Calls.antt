@@ -17,8 +17,8 @@ pub data State : Type 0 where
 
 -- a call with its arguments
 pub data Call : Type 0 where
-  -- another table, and whether there is memory for it
-  load : Table → Bool → Call
+  -- another table
+  load : Table → Call
   -- the pair of states and components
   standing : Call
   -- a component, a number of steps, a width
@@ -39,25 +39,25 @@ count_within n = nat_le 1 n && nat_le n 1000
 abbrev pub fresh : Table → State
 fresh T = loaded T (start (setting_of T))
 
--- an open: a table that breaks a limit, or for which there is no memory, leaves an idle engine
-unfoldable pub opened : Table → Bool → State
-opened T memory =
+-- an open: a table that breaks a limit leaves an idle engine
+unfoldable pub opened : Table → State
+opened T =
     elim (fault_of T) [
       | Some e ↦ idle (refusal.Table e)
-      | None ↦ cond memory (fresh T) (idle refusal.Memory)
+      | None ↦ fresh T
     ]
 
 -- a load takes the table's place only if it is accepted
-unfoldable pub after_load : Table → Bool → State → State
-after_load T memory S =
+unfoldable pub after_load : Table → State → State
+after_load T S =
     elim (fault_of T) [
       | Some e ↦ S
-      | None ↦ cond memory (fresh T) S
+      | None ↦ fresh T
     ]
 
 -- what a loaded engine holds after a call; a refused call leaves it as it was
 unfoldable pub after_call : Table → Book → Call → State
-after_call T B (load T' memory) = after_load T' memory (loaded T B)
+after_call T B (load T') = after_load T' (loaded T B)
 after_call T B standing = loaded T B
 after_call T B (refines k n width) = cond (nat_lt k (components T) && count_within n) (loaded T (refine (setting_of T) k n width B).book) (loaded T B)
 after_call T B (sweeping n) = cond (count_within n) (loaded T (sweeps (setting_of T) n B).book) (loaded T B)
@@ -67,7 +67,7 @@ after_call T B (plan list) = loaded T B
 
 -- what an idle engine holds after a call: only an accepted load changes it
 unfoldable pub after_idle : Refusal → Call → State
-after_idle e (load T memory) = after_load T memory (idle e)
+after_idle e (load T) = after_load T (idle e)
 after_idle e standing = idle e
 after_idle e (refines k n width) = idle e
 after_idle e (sweeping n) = idle e

@@ -1,5 +1,5 @@
 -- The law over whole histories: what holds after the open and after every call, whatever the calls were.
-use Rattle.std.specs.Prelude.{◌≡◌, ℕ, ◌^◌, ◌<◌, Bool, List, [], ◌∷◌, ℤ, pos, ◌+ℤ◌, ◌-ℤ◌, ◌*ℤ◌, ◌≤ℤ◌, ◌≢◌, slice_index}
+use Rattle.std.specs.Prelude.{◌≡◌, ℕ, ◌^◌, ◌<◌, List, [], ◌∷◌, ℤ, pos, ◌+ℤ◌, ◌-ℤ◌, ◌*ℤ◌, ◌≤ℤ◌, ◌≢◌, slice_index}
 use Rattle.table.specs.Table.{Table}
 use Rattle.table.specs.Limits.{Lawful}
 use Rattle.horizon.specs.Strategies.{Strategy, Names, PlanNames, follow, scaled_reward}
@@ -54,22 +54,22 @@ Quiet S (c ∷ cs) = (answer S c ≢ done) × Quiet (next S c) cs
 
 -- After an open, accepted or refused, and any list of calls, loads with any tables and refused calls among them,
 -- of the table that the engine then holds:
-pub record HistoryLaw (opening : Table) (memory : Bool) : Type 0 where
+pub record HistoryLaw (opening : Table) : Type 0 where
   -- it keeps all limits
-  pub lawful : (calls : List Call) (T : Table) → Holds (run (opened opening memory) calls) T → Lawful T
+  pub lawful : (calls : List Call) (T : Table) → Holds (run (opened opening) calls) T → Lawful T
   -- no strategy beats the upper bound by more than C
-  pub upper : (calls : List Call) (T : Table) → Holds (run (opened opening memory) calls) T
-      → UpperPromise (run (opened opening memory) calls) T
+  pub upper : (calls : List Call) (T : Table) → Holds (run (opened opening) calls) T
+      → UpperPromise (run (opened opening) calls) T
   -- the plan of that moment earns the lower bound less C
-  pub lower : (calls : List Call) (T : Table) → Holds (run (opened opening memory) calls) T
-      → (list written : List ℕ) → answer (run (opened opening memory) calls) (plan list) ≡ planned written
-      → LowerPromise (run (opened opening memory) calls) T (λ s. slice_index written s)
+  pub lower : (calls : List Call) (T : Table) → Holds (run (opened opening) calls) T
+      → (list written : List ℕ) → answer (run (opened opening) calls) (plan list) ≡ planned written
+      → LowerPromise (run (opened opening) calls) T (λ s. slice_index written s)
   -- bounds only tighten until the next accepted load or close
-  pub tight : (calls later : List Call) (T : Table) → Holds (run (opened opening memory) calls) T
-      → Quiet (run (opened opening memory) calls) later
-      → Holds (run (run (opened opening memory) calls) later) T
-      × Tighter (run (opened opening memory) calls) (run (run (opened opening memory) calls) later) T
+  pub tight : (calls later : List Call) (T : Table) → Holds (run (opened opening) calls) T
+      → Quiet (run (opened opening) calls) later
+      → Holds (run (run (opened opening) calls) later) T
+      × Tighter (run (opened opening) calls) (run (run (opened opening) calls) later) T
 
--- for every table and whether or not there was memory for it
+-- for every table
 abbrev pub EveryHistory : Type 0
-EveryHistory = (T : Table) (memory : Bool) → HistoryLaw T memory
+EveryHistory = (T : Table) → HistoryLaw T

@@ -1,5 +1,5 @@
 -- When a call is refused, what a refusal leaves, and what an accepted load forgets.
-use Rattle.std.specs.Prelude.{◌≡◌, ℕ, ◌<◌, ◌≤◌, Bool, true, false, ◌⊎◌, ◌↔◌, List, [], ◌∷◌, ◌++◌, length, Some, None}
+use Rattle.std.specs.Prelude.{◌≡◌, ℕ, ◌<◌, ◌≤◌, ◌⊎◌, ◌↔◌, List, [], ◌∷◌, ◌++◌, length, Some, None}
 use Rattle.table.specs.Table.{Table}
 use Rattle.table.specs.Walk.{fault_of}
 use Rattle.table.specs.declared.fault.Fault.{Fault}
@@ -12,7 +12,7 @@ use Rattle.history.specs.declared.refusal.Refusal.TheVariants as refusal
 
 -- the calls that need a table
 abbrev pub NeedsTable : Call → Type 0
-NeedsTable (load T memory) = ⊥
+NeedsTable (load T) = ⊥
 NeedsTable standing = ⊥
 NeedsTable (refines k n width) = Unit {0}
 NeedsTable (sweeping n) = Unit {0}
@@ -27,9 +27,7 @@ Miscounted n = (n < 1) ⊎ (1000 < n)
 -- why a call is refused, and with what
 pub data Reason : State → Call → Refusal → Type 0 where
   -- the table breaks a limit: the first on its walk
-  broken : {S : State} {T : Table} {memory : Bool} {e : Fault} → fault_of T ≡ Some e → Reason S (load T memory) (refusal.Table e)
-  -- it keeps all limits, and there is no memory for it
-  no_memory : {S : State} {T : Table} → fault_of T ≡ None → Reason S (load T false) refusal.Memory
+  broken : {S : State} {T : Table} {e : Fault} → fault_of T ≡ Some e → Reason S (load T) (refusal.Table e)
   -- the engine's open was refused
   unopened : {e : Refusal} → Reason (idle e) standing e
   -- the call needs a table
@@ -42,9 +40,9 @@ pub data Reason : State → Call → Refusal → Type 0 where
 
 -- the engine is as if T had just been opened: it holds the same, and every list of calls answers and leads as after that open
 pub record AsOpened (S : State) (T : Table) : Type 0 where
-  pub holds : S ≡ opened T true
-  pub answers : (later : List Call) → answers S later ≡ answers (opened T true) later
-  pub leads : (later : List Call) → run S later ≡ run (opened T true) later
+  pub holds : S ≡ opened T
+  pub answers : (later : List Call) → answers S later ≡ answers (opened T) later
+  pub leads : (later : List Call) → run S later ≡ run (opened T) later
 
 pub record RefusalLaw : Type 0 where
   -- a call is refused exactly where there is a reason, and with it
@@ -54,12 +52,12 @@ pub record RefusalLaw : Type 0 where
   -- a close gives the start of the table that is loaded
   pub closes : (T : Table) (B : Book) → next (loaded T B) close ≡ fresh T
   -- where that table keeps all limits, this is what an open of it gives
-  pub reopens : (T : Table) (B : Book) → fault_of T ≡ None → next (loaded T B) close ≡ opened T true
+  pub reopens : (T : Table) (B : Book) → fault_of T ≡ None → next (loaded T B) close ≡ opened T
   -- after an accepted load nothing depends on what the engine held before: it is as if just opened
-  pub forgets : (S : State) (calls : List Call) (T : Table) → fault_of T ≡ None → run S (calls ++ (load T true ∷ [])) ≡ opened T true
+  pub forgets : (S : State) (calls : List Call) (T : Table) → fault_of T ≡ None → run S (calls ++ (load T ∷ [])) ≡ opened T
   -- An old fault leaves no trace. An engine is opened on any table and any calls follow, refines among them; then a load is refused,
-  -- of whatever table and for whatever reason; then a load of T is accepted: the engine is as if T had just been opened.
-  pub old_fault : (first faulty T : Table) (enough memory spare : Bool) (calls : List Call) (e : Refusal)
-      → answer (run (opened first enough) calls) (load faulty memory) ≡ refused e
-      → answer (run (opened first enough) (calls ++ (load faulty memory ∷ []))) (load T spare) ≡ done
-      → AsOpened (run (opened first enough) (calls ++ (load faulty memory ∷ load T spare ∷ []))) T
+  -- of whatever table; then a load of T is accepted: the engine is as if T had just been opened.
+  pub old_fault : (first faulty T : Table) (calls : List Call) (e : Refusal)
+      → answer (run (opened first) calls) (load faulty) ≡ refused e
+      → answer (run (opened first) (calls ++ (load faulty ∷ []))) (load T) ≡ done
+      → AsOpened (run (opened first) (calls ++ (load faulty ∷ load T ∷ []))) T

@@ -1,5 +1,5 @@
 -- Worked histories: each is an open, then calls with the answer expected of each, which follow from the definitions by computation.
-use Rattle.std.specs.Prelude.{◌≡◌, true, false, List, [], ◌∷◌, map, pos, neg_ℤ, None}
+use Rattle.std.specs.Prelude.{◌≡◌, List, [], ◌∷◌, map, pos, neg_ℤ, None}
 use Rattle.std.specs.List.{AllByRecursion}
 use Rattle.table.specs.Table.{Table}
 use Rattle.table.specs.Walk.{fault_of}
@@ -23,7 +23,7 @@ expected c = map (λ (p : Call × Answer). p.1) c.calls
 
 -- the table is lawful, and the calls answer as expected
 abbrev pub Works : Case → Type 0
-Works c = (fault_of c.table ≡ None) × (answers (opened c.table true) (asked c) ≡ expected c)
+Works c = (fault_of c.table ≡ None) × (answers (opened c.table) (asked c) ≡ expected c)
 
 -- two states that loop; the weights of choice 1 of state 1 add up to 3, one less than the denominator
 unfoldable pub light : Table
@@ -91,7 +91,7 @@ worked_cases =
           (refines 0 10 0, refined 2 (pos 5242880) (pos 5242880))
           ∷ (sweeping 1, swept 1)
           ∷ (quote 0 0, quoted (pos 5242880) (pos 5242880) 1)
-          ∷ (load light true, refused (refusal.Table (Sum 1 1)))
+          ∷ (load light, refused (refusal.Table (Sum 1 1)))
           ∷ (quote 0 0, quoted (pos 5242880) (pos 5242880) 1)
           ∷ [];
     }
@@ -100,8 +100,8 @@ worked_cases =
       table = model_b;
       calls =
           (refines 0 10 0, refined 2 (pos 5242880) (pos 5242880))
-          ∷ (load light true, refused (refusal.Table (Sum 1 1)))
-          ∷ (load model_a true, done)
+          ∷ (load light, refused (refusal.Table (Sum 1 1)))
+          ∷ (load model_a, done)
           ∷ (standing, stands 1 1)
           ∷ (quote 0 0, quoted (pos 3145728) (pos 3145728) 1)
           ∷ (quote 1 0, refused refusal.State)
@@ -119,7 +119,7 @@ worked_cases =
           ∷ (refines 0 1 0, refined 1 (pos 0) (pos 10485760))
           ∷ [];
     }
-    -- calls that are refused with 22, 22, 24, 24, 23, 25 and 20, in this order
+    -- calls that are refused with 22, 22, 24, 24, 23 and 25, in this order
     ∷ record {
       table = model_c;
       calls =
@@ -129,7 +129,6 @@ worked_cases =
           ∷ (sweeping 1001, refused refusal.Count)
           ∷ (quote 3 0, refused refusal.State)
           ∷ (plan (0 ∷ 0 ∷ []), refused refusal.Room)
-          ∷ (load model_a false, refused refusal.Memory)
           ∷ (standing, stands 3 2)
           ∷ [];
     }

@@ -1,17 +1,14 @@
 ghost use Rattle.std.specs.Prelude.{◌≡◌};
-ghost use Rattle.history.specs.Refusals.{refusal_notice, refusal_of};
+ghost use Rattle.history.specs.Refusals.{refusal_notice};
+ghost use Rattle.history.specs.declared.refusal.Refusal.TheVariants as refusal;
 
-use model::LoadFault;
 use table::{Fault, Notice};
 
-// Why a call is refused. The two cases of a load stand beside the others, and not in one case that holds a `LoadFault`:
-// each case is then one reason with one number, as the definitions name them.
+// Why a call is refused.
 #[derive(Clone, Copy, PartialEq, Eq, Debug)]
 pub enum Refusal {
     // the table breaks a limit
     Table(Fault),
-    // there is not enough memory for the table
-    Memory,
     // the engine is idle
     Idle,
     // there is no such component
@@ -31,7 +28,6 @@ impl Refusal {
     {
         match *self {
             Refusal::Table(fault) => fault.notice(),
-            Refusal::Memory => LoadFault::Memory.notice(),
             Refusal::Idle => Notice::of_number(21),
             Refusal::Component => Notice::of_number(22),
             Refusal::State => Notice::of_number(23),
@@ -41,14 +37,11 @@ impl Refusal {
     }
 }
 
-// What stops a load is the refusal of the call.
-impl From<LoadFault> for Refusal {
-    ghost from_gives = { λ e r. r ≡ refusal_of e };
+// A limit that a table breaks is the refusal of its load.
+impl From<Fault> for Refusal {
+    ghost from_gives = { λ e r. r ≡ refusal.Table e };
 
-    fn from(fault: LoadFault) -> Refusal {
-        match fault {
-            LoadFault::Limit(broken) => Refusal::Table(broken),
-            LoadFault::Memory => Refusal::Memory,
-        }
+    fn from(broken: Fault) -> Refusal {
+        Refusal::Table(broken)
     }
 }

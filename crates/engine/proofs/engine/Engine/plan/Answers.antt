@@ -1,9 +1,10 @@
-use Rattle.std.proofs.Common.{◌≡◌, ◌≤◌, length, sym, ap, ◌∙◌, arith}
+use Rattle.std.proofs.Common.{◌≡◌, ◌≤◌, length, None, Option, sym, ap, ◌∙◌, arith}
 use Rattle.history.specs.Calls.{State, loaded, plan, next}
 use Rattle.history.specs.Answers.{Answer, planned, answer}
 use Rattle.book.specs.Desks.{desk_table, desk_book}
+use Rattle.history.specs.declared.refusal.Refusal.{Refusal}
 use Rattle.engine.specs.States.{held_state, state_of, list_after}
-use Rattle.engine.proofs.Refusals.{idle_refuses, room_refuses, states_stand, not_idle}
+use Rattle.engine.proofs.Refusals.{idle_refuses, room_refuses, states_stand, stands_open}
 use Rattle.engine.proofs.Accepted.{plan-answer, plan_next}
 use Rattle.engine.proofs.engine.Engine.plan.Goals as goal
 
@@ -19,16 +20,14 @@ returns-then-list-states c =
     let r = room_refuses c.in-Ok.states c.in-Ok.field-0-1 (state_of c.args.self.now) c.in-Ok.ensures list c.if-list-states.true in
     record { answer = r.answer; list = ap (λ (a : Answer). list_after a list) r.answer; holds = r.holds }
 
-pub returns-in_err-desk : goal.returns-in_err-desk
-returns-in_err-desk c = not_idle c.in-Ok.states c.in-Ok.field-0-1 c.args.self.now.held c.in-Ok.ensures c.in_err-desk.ensures.held.1
-
 pub returns : goal.returns
 returns c =
-    let d = c.in_ok-desk.field-0.now in
+    let d = c.args.self.now.desk in
     let T = desk_table d in
     let B = desk_book d in
     let list = c.args.list.now in
-    let here : state_of c.args.self.now ≡ loaded T B = ap held_state c.in_ok-desk.ensures.held in
+    let opened : c.args.self.now.idle ≡ None = stands_open c.in-Ok.states c.in-Ok.field-0-1 c.args.self.now.idle d c.in-Ok.ensures in
+    let here : state_of c.args.self.now ≡ loaded T B = ap (λ (o : Option Refusal). held_state o d) opened in
     let n = states_stand c.in-Ok.states c.in-Ok.field-0-1 (state_of c.args.self.now) T B c.in-Ok.ensures here in
     let h : T.states ≤ length list = omega (arith, n, c.if-list-states.false) in
     let a : planned c.plan.new.list ≡ answer (state_of c.args.self.now) (plan list) =
@@ -36,6 +35,6 @@ returns c =
     record {
       answer = a;
       list = ap (λ (a : Answer). list_after a list) a;
-      holds = plan_next T B (desk_table c.plan.new.self) (desk_book c.plan.new.self) list c.plan.ensures.table c.plan.ensures.book
+      holds = ap (λ (o : Option Refusal). held_state o c.plan.new.self) opened ∙ plan_next T B (desk_table c.plan.new.self) (desk_book c.plan.new.self) list c.plan.ensures.table c.plan.ensures.book
           ∙ ap (λ (S : State). next S (plan list)) (sym here);
     }

@@ -1,11 +1,12 @@
-use Rattle.std.proofs.Common.{◌≡◌, ◌<◌, is_err, pos, ◌-ℤ◌, sym, ap, ◌∙◌, arith, w64, SFits, rules}
+use Rattle.std.proofs.Common.{◌≡◌, ◌<◌, pos, ◌-ℤ◌, None, Option, sym, ap, ◌∙◌, arith, w64, SFits, rules}
 use lib.Signed.{le_z}
 use Rattle.std.proofs.lemmas.Int.{to_z-of_z}
 use Rattle.history.specs.Calls.{State, loaded, quote}
 use Rattle.history.specs.Answers.{answer}
 use Rattle.book.specs.Desks.{desk_table, desk_book}
+use Rattle.history.specs.declared.refusal.Refusal.{Refusal}
 use Rattle.engine.specs.States.{held_state, state_of}
-use Rattle.engine.proofs.Refusals.{idle_refuses, state_refuses, not_idle, states_stand}
+use Rattle.engine.proofs.Refusals.{idle_refuses, state_refuses, stands_open, states_stand}
 use Rattle.engine.proofs.Accepted.{quote-answer}
 use Rattle.engine.proofs.engine.Engine.quote.Goals as goal
 
@@ -17,16 +18,13 @@ pub returns-then-state-states : goal.returns-then-state-states
 returns-then-state-states c =
     (state_refuses c.in-Ok.states c.in-Ok.field-0-1 (state_of c.args.self.now) c.in-Ok.ensures c.args.state c.args.width c.if-state-states.true).answer
 
-pub returns-in_default-held : goal.returns-in_default-held
-returns-in_default-held c =
-    not_idle c.in-Ok.states c.in-Ok.field-0-1 c.args.self.now.held c.in-Ok.ensures (ap is_err c.in_default-held.is)
-
 pub returns : goal.returns
 returns c =
-    let d = c.in-Ok-held.desk in
+    let d = c.args.self.now.desk in
     let T = desk_table d in
     let B = desk_book d in
-    let here : state_of c.args.self.now ≡ loaded T B = ap held_state c.in-Ok-held.is in
+    let opened : c.args.self.now.idle ≡ None = stands_open c.in-Ok.states c.in-Ok.field-0-1 c.args.self.now.idle d c.in-Ok.ensures in
+    let here : state_of c.args.self.now ≡ loaded T B = ap (λ (o : Option Refusal). held_state o d) opened in
     let n = states_stand c.in-Ok.states c.in-Ok.field-0-1 (state_of c.args.self.now) T B c.in-Ok.ensures here in
     let h : c.args.state < T.states = omega (arith, n, c.if-state-states.false) in
     let fl : SFits w64 c.quote-lower.result.0 = search rules in

@@ -1,11 +1,12 @@
-use Rattle.std.proofs.Common.{◌≡◌, ◌<◌, sym, ap, ◌∙◌, arith, w64, SFits, rules}
+use Rattle.std.proofs.Common.{◌≡◌, ◌<◌, None, Option, sym, ap, ◌∙◌, arith, w64, SFits, rules}
 use Rattle.history.specs.Calls.{State, loaded, refines, next}
 use Rattle.history.specs.Answers.{answer}
 use Rattle.book.specs.Desks.{desk_table, desk_book}
+use Rattle.history.specs.declared.refusal.Refusal.{Refusal}
 use Rattle.engine.specs.States.{held_state, state_of}
 use Rattle.std.proofs.lemmas.Int.{to_z-of_z}
 use Rattle.components.specs.Nodes.{components}
-use Rattle.engine.proofs.Refusals.{idle_refuses, component_refuses, steps_refuses, components_stand, not_idle}
+use Rattle.engine.proofs.Refusals.{idle_refuses, component_refuses, steps_refuses, components_stand, stands_open}
 use Rattle.engine.proofs.Accepted.{refine-answer, refine_next}
 use Rattle.engine.proofs.engine.Engine.refine.Goals as goal
 
@@ -26,16 +27,14 @@ returns-then-not-counts c =
     c.args.component c.args.steps c.args.width c.if-component-components.false (sym c.if-not-counts.ensures) in
     record { answer = r.answer; holds = r.holds }
 
-pub returns-in_err-desk : goal.returns-in_err-desk
-returns-in_err-desk c = not_idle c.in-Ok.field-0-0 c.in-Ok.components c.args.self.now.held c.in-Ok.ensures c.in_err-desk.ensures.held.1
-
 pub returns : goal.returns
 returns c =
-    let d = c.in_ok-desk.desk.now in
+    let d = c.args.self.now.desk in
     let T = desk_table d in
     let B = desk_book d in
     let A = desk_book c.refine-made.new.self in
-    let here : state_of c.args.self.now ≡ loaded T B = ap held_state c.in_ok-desk.ensures.held in
+    let opened : c.args.self.now.idle ≡ None = stands_open c.in-Ok.field-0-0 c.in-Ok.components c.args.self.now.idle d c.in-Ok.ensures in
+    let here : state_of c.args.self.now ≡ loaded T B = ap (λ (o : Option Refusal). held_state o d) opened in
     let k = components_stand c.in-Ok.field-0-0 c.in-Ok.components (state_of c.args.self.now) T B c.in-Ok.ensures here in
     let h : c.args.component < components T = omega (arith, k, c.if-component-components.false) in
     let e = sym c.if-not-counts.ensures in
@@ -47,5 +46,5 @@ returns c =
     let n = refine_next T B (desk_table c.refine-made.new.self) A c.args.component c.args.steps c.args.width h e c.refine-made.ensures.table c.refine-made.ensures.book in
     record {
       answer = simp to_z-of_z a';
-      holds = n ∙ ap (λ (S : State). next S (refines c.args.component c.args.steps c.args.width)) (sym here);
+      holds = ap (λ (o : Option Refusal). held_state o c.refine-made.new.self) opened ∙ n ∙ ap (λ (S : State). next S (refines c.args.component c.args.steps c.args.width)) (sym here);
     }
