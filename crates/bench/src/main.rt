@@ -2,7 +2,7 @@
 // of one state. The counts go to standard output and the times to standard error.
 #![tactic(auto)]
 
-use decomposition::Parts;
+use decomposition::{Parts, Scratch};
 use model::Model;
 use samples::{Weights, chain, largest};
 use sources::OwnedList;
@@ -13,13 +13,16 @@ fn timed(
     rt: &HostRuntime,
     lists: &OwnedList,
 ) -> anyhow::Result<Option<(Parts, Duration, Duration)>> {
+    let mut model = Model::new(rt.alloc())?;
+    let mut parts = Parts::new(rt.alloc())?;
+    let mut scratch = Scratch::new(rt.alloc())?;
     let start = Instant::now(rt)?;
-    let Ok(model) = Model::load(rt.alloc(), lists) else {
+    if model.load(lists).is_err() {
         return Ok(None);
-    };
+    }
     let copied = start.elapsed(rt)?;
     let start = Instant::now(rt)?;
-    let parts = Parts::of(rt.alloc(), &model)?;
+    parts.take_apart(&mut scratch, &model);
     let taken = start.elapsed(rt)?;
     Ok(Some((parts, copied, taken)))
 }

@@ -1,5 +1,5 @@
 -- The start of a run.
-use Rattle.std.proofs.Common.{◌≡◌, ℕ, Bool, List, [], ◌∷◌, ◌++◌, IfSome, IfOk, Some, None, Ok, Err, Option, Result, sym, refl, ap, ◌∙◌, append-nil, arith}
+use Rattle.std.proofs.Common.{◌≡◌, ℕ, List, [], ◌∷◌, ◌++◌, IfSome, IfOk, Some, None, Ok, Err, Option, Result, sym, refl, ap, ◌∙◌, append-nil, arith}
 use Rattle.std.specs.Option.{option_map}
 use Rattle.table.specs.Table.{Table}
 use Rattle.modelfile.specs.Lists.{outcome}
@@ -36,37 +36,36 @@ sized file states choices branches o s c b h =
     ∙ ap (λ (n : ℕ). table_read (outcome file 256 1024 n)) b
 
 -- an engine on the table of the file
-pub begun : (file : List ℕ) (memory : Bool) (S : State) (T : Table) → Ok T ≡ table_read (outcome file 256 1024 4096) → S ≡ opened T memory → begins S ≡ start file memory
+pub begun : (file : List ℕ) (S : State) (T : Table) → Ok T ≡ table_read (outcome file 256 1024 4096) → S ≡ opened T → begins S ≡ start file
 unfolding start
-begun file memory S T h e = ap begins e ∙ ap (λ (o : Result Table FileFault). begins_with o memory) h
+begun file S T h e = ap begins e ∙ ap (λ (o : Result Table FileFault). begins_with o) h
 
--- a file that is refused, whether or not there is memory
-pub unbegun : (file : List ℕ) (memory : Bool) (e : FileFault) → Err e ≡ table_read (outcome file 256 1024 4096) → (refused_file e, None) ≡ start file memory
+-- a file that is refused
+pub unbegun : (file : List ℕ) (e : FileFault) → Err e ≡ table_read (outcome file 256 1024 4096) → (refused_file e, None) ≡ start file
 unfolding start
-unbegun file memory e h = ap (λ (o : Result Table FileFault). begins_with o memory) h
+unbegun file e h = ap (λ (o : Result Table FileFault). begins_with o) h
 
-pub opened_made : {X E : Type 0} (bytes : X → List ℕ) (r : Result (X × Option Console) E) (file : List ℕ) (memory : Bool) (S : State) → begins S ≡ start file memory
+pub opened_made : {X E : Type 0} (bytes : X → List ℕ) (r : Result (X × Option Console) E) (file : List ℕ) (S : State) → begins S ≡ start file
     → IfOk r (λ p. bytes p.0 ≡ (begins S).0) → IfOk r (λ p. option_map held p.1 ≡ (begins S).1) → IfOk r (λ p. IfSome p.1 (λ c. c.lines ≡ 0))
     → IfOk r (λ p. Opened file (bytes p.0) p.1)
-opened_made bytes (Ok p) file memory S e l h n = record {
-  memory = memory;
+opened_made bytes (Ok p) file S e l h n = record {
   line = l ∙ ap (λ (x : List ℕ × Option State). x.0) e;
   engine = h ∙ ap (λ (x : List ℕ × Option State). x.1) e;
   count = n;
 }
-opened_made bytes (Err x) file memory S e l h n = tt
+opened_made bytes (Err x) file S e l h n = tt
 
 -- the whole text of a run that goes on, and of one that ends after its first line
 module _ (file input first text : List ℕ) (console : Option Console) (o : Opened file first console) where
-  line_is : (x : Option State) → (first ++ (10 ∷ [])) ++ bytes_of (goes_on x input) ≡ ((start file o.memory).0 ++ (10 ∷ [])) ++ bytes_of (goes_on x input)
+  line_is : (x : Option State) → (first ++ (10 ∷ [])) ++ bytes_of (goes_on x input) ≡ ((start file).0 ++ (10 ∷ [])) ++ bytes_of (goes_on x input)
   line_is x = ap (λ (bs : List ℕ). (bs ++ (10 ∷ [])) ++ bytes_of (goes_on x input)) o.line
 
-  pub going : (k : Console) → console ≡ Some k → text ≡ (first ++ (10 ∷ [])) ++ bytes_of (replies 1 (held k) (lines_of input)) → text ≡ bytes_of (transcript file o.memory input)
+  pub going : (k : Console) → console ≡ Some k → text ≡ (first ++ (10 ∷ [])) ++ bytes_of (replies 1 (held k) (lines_of input)) → text ≡ bytes_of (transcript file input)
   going k e h =
-      let holds : Some (held k) ≡ (start file o.memory).1 = ap (option_map held) (sym e) ∙ o.engine in
-      h ∙ line_is (Some (held k)) ∙ ap (λ (x : Option State). ((start file o.memory).0 ++ (10 ∷ [])) ++ bytes_of (goes_on x input)) holds
+      let holds : Some (held k) ≡ (start file).1 = ap (option_map held) (sym e) ∙ o.engine in
+      h ∙ line_is (Some (held k)) ∙ ap (λ (x : Option State). ((start file).0 ++ (10 ∷ [])) ++ bytes_of (goes_on x input)) holds
 
-  pub ended : console ≡ None → text ≡ first ++ (10 ∷ []) → text ≡ bytes_of (transcript file o.memory input)
+  pub ended : console ≡ None → text ≡ first ++ (10 ∷ []) → text ≡ bytes_of (transcript file input)
   ended e h =
-      let holds : None ≡ (start file o.memory).1 = ap (option_map held) (sym e) ∙ o.engine in
-      h ∙ sym (append-nil (first ++ (10 ∷ []))) ∙ line_is None ∙ ap (λ (x : Option State). ((start file o.memory).0 ++ (10 ∷ [])) ++ bytes_of (goes_on x input)) holds
+      let holds : None ≡ (start file).1 = ap (option_map held) (sym e) ∙ o.engine in
+      h ∙ sym (append-nil (first ++ (10 ∷ []))) ∙ line_is None ∙ ap (λ (x : Option State). ((start file).0 ++ (10 ∷ [])) ++ bytes_of (goes_on x input)) holds

@@ -1,5 +1,5 @@
 -- What a console holds.
-use Rattle.std.specs.Prelude.{◌≡◌, ℕ, suc, min, Bool, List, IfSome, Option}
+use Rattle.std.specs.Prelude.{◌≡◌, ℕ, suc, min, List, IfSome, Option}
 use Rattle.std.specs.Option.{option_map}
 use Rattle.history.specs.Calls.{State}
 use Rattle.engine.specs.States.{state_of}
@@ -14,9 +14,8 @@ held c = state_of c.engine
 abbrev pub counted : ℕ → ℕ
 counted lines = min (suc lines) 18446744073709551615
 
--- the first line of a run, and its console if it goes on: as the file begins it, for memory that was enough or not
+-- the first line of a run, and its console if it goes on: as the file begins it
 pub record Opened (file first : List ℕ) (console : Option Console) : Type 0 where
-  pub memory : Bool
-  pub line : first ≡ (start file memory).0
-  pub engine : option_map held console ≡ (start file memory).1
+  pub line : first ≡ (start file).0
+  pub engine : option_map held console ≡ (start file).1
   pub count : IfSome console (λ c. c.lines ≡ 0)

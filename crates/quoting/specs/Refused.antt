@@ -7,7 +7,7 @@ use Rattle.modelfile.specs.Faults.{notice_of as file_notice}
 use Rattle.modelfile.specs.declared.fault.FileFault.{FileFault}
 use Rattle.history.specs.Refusals.{refusal_notice}
 use Rattle.history.specs.declared.refusal.Refusal.{Refusal}
-use Rattle.history.specs.declared.refusal.Refusal.TheVariants.{Table, Memory, Idle, Component, State, Count, Room}
+use Rattle.history.specs.declared.refusal.Refusal.TheVariants.{Table, Idle, Component, State, Count, Room}
 use Rattle.console.specs.Lines.{answer_line}
 
 abbrev pub error_line : ℕ → List ℕ → List ℕ
@@ -17,10 +17,9 @@ error_line number places = answer_line 69 (pos number ∷ map pos places)
 abbrev pub limit_places : Notice → List ℕ
 limit_places n = n.state ∷ n.choice ∷ n.branch ∷ []
 
--- a table's broken limit has its place in the table, want of memory has none, and a refused command has the number of its line
+-- a table's broken limit has its place in the table, and a refused command has the number of its line
 abbrev pub places_of : ℕ → Refusal → List ℕ
 places_of line (Table e) = limit_places (fault_notice e)
-places_of line Memory = []
 places_of line Idle = line ∷ []
 places_of line Component = line ∷ []
 places_of line State = line ∷ []

@@ -1,5 +1,5 @@
 -- A whole run of the quote program: the lines that it writes for a model file and an input.
-use Rattle.std.specs.Prelude.{◌≡◌, ℕ, suc, ◌+◌, ◌≤◌, Bool, List, [], ◌∷◌, ◌++◌, length, Some, None, Ok, Err, Option, Result, ◌≢◌}
+use Rattle.std.specs.Prelude.{◌≡◌, ℕ, suc, ◌+◌, ◌≤◌, List, [], ◌∷◌, ◌++◌, length, Some, None, Ok, Err, Option, Result, ◌≢◌}
 use Rattle.std.specs.List.{flat_map}
 use Rattle.table.specs.Table.{Table}
 use Rattle.rules.specs.Book.{Book}
@@ -24,14 +24,14 @@ abbrev pub begins : State → List ℕ × Option State
 begins (idle e) = (opening (idle e), None)
 begins (loaded T B) = (opening (loaded T B), Some (loaded T B))
 
--- and so does a refused file; `memory` says whether there is enough for the model
-abbrev pub begins_with : Result Table FileFault → Bool → List ℕ × Option State
-begins_with (Err e) memory = (refused_file e, None)
-begins_with (Ok T) memory = begins (opened T memory)
+-- and so does a refused file
+abbrev pub begins_with : Result Table FileFault → List ℕ × Option State
+begins_with (Err e) = (refused_file e, None)
+begins_with (Ok T) = begins (opened T)
 
 -- the file is read into lists of 256 states, 1,024 choices and 4,096 branches
-unfoldable pub start : List ℕ → Bool → List ℕ × Option State
-start file memory = begins_with (table_read (outcome file 256 1024 4096)) memory
+unfoldable pub start : List ℕ → List ℕ × Option State
+start file = begins_with (table_read (outcome file 256 1024 4096))
 
 -- the answers to lines, of which the first has this number; each call goes on from what the calls before it left
 abbrev pub replies : ℕ → State → List (List ℕ) → List (List ℕ)
@@ -44,8 +44,8 @@ goes_on None input = []
 goes_on (Some S) input = replies 1 S (lines_of input)
 
 -- the lines of a whole run
-abbrev pub transcript : List ℕ → Bool → List ℕ → List (List ℕ)
-transcript file memory input = (start file memory).0 ∷ goes_on (start file memory).1 input
+abbrev pub transcript : List ℕ → List ℕ → List (List ℕ)
+transcript file input = (start file).0 ∷ goes_on (start file).1 input
 
 -- lines as they are written, each with its line feed
 abbrev pub bytes_of : List (List ℕ) → List ℕ

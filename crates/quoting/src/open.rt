@@ -8,7 +8,7 @@ use crate::read::read_model;
 use crate::refused::{refused_call, refused_file};
 use crate::session::Console;
 use console::loaded_line;
-use engine::Engine;
+use engine::{Engine, Space};
 use sources::{ChoiceRow, StateRow};
 use std::alloc::{AllocError, Global};
 
@@ -30,7 +30,7 @@ impl Console {
         let mut choices = vec![in heap; ChoiceRow::default(); MOST_CHOICES]?;
         let mut branches = vec![in heap; (0, 0); MOST_BRANCHES]?;
         match read_model(file, &mut states, &mut choices, &mut branches) {
-            Ok(list) => begin(heap, Engine::open(heap, &list)),
+            Ok(list) => begin(heap, Engine::open(Space::new(heap)?, &list)),
             Err(fault) => Ok((refused_file(heap, fault)?, None)),
         }
     }
@@ -47,7 +47,7 @@ fn begin(heap: Global, engine: Engine) -> Result<(String, Option<Console>), Allo
             let line = loaded_line(heap, states, components)?;
             Ok((line, Some(Console { engine, lines: 0 })))
         }
-        // no line of a command: an open is refused for its table or for want of memory, and these lines name none
+        // no line of a command: an open is refused for its table, and these lines name none
         Err(refusal) => Ok((refused_call(heap, 0, refusal)?, None)),
     }
 }

@@ -20,7 +20,6 @@ pub(crate) fn refused_call(heap: Global, line: u64, refusal: Refusal) -> Result<
             let places = [notice.state, notice.choice, notice.branch].map(u64::from);
             refusal_line(heap, number, &places)
         }
-        Refusal::Memory => refusal_line(heap, number, &[]),
         _ => refusal_line(heap, number, &[line]),
     }
 }

@@ -1,4 +1,4 @@
-ghost use Rattle.std.specs.Prelude.{◌≡◌, Bool, ◌++◌, IfOk, string_bytes, OnOk};
+ghost use Rattle.std.specs.Prelude.{◌≡◌, ◌++◌, IfOk, string_bytes, OnOk};
 ghost use Rattle.console.specs.Inputs.{lines_of};
 ghost use Rattle.quoting.specs.Runs.{transcript as written, bytes_of, replies, RepliesLaw};
 ghost use Rattle.quoting.specs.Consoles.{held};
@@ -10,7 +10,7 @@ use std::fmt::Write;
 
 // What a whole run writes for a model file and an input.
 pub fn transcript(heap: Global, file: &[u8], input: &[u8]) -> Result<String, AllocError>
-    ensures bytes { IfOk result (λ t. ((memory : Bool) × (string_bytes t ≡ bytes_of (written file.now memory input.now)))) }
+    ensures bytes { IfOk result (λ t. string_bytes t ≡ bytes_of (written file.now input.now)) }
     ensures law { RepliesLaw }
 {
     let (first, console) = Console::open(heap, file)?;

@@ -1,4 +1,4 @@
-use engine::Engine;
+use engine::{Engine, Space};
 use history::Refusal;
 use std::time::{Duration, Instant};
 use table::Source;
@@ -65,7 +65,7 @@ fn time_loads<S: Source>(
         rounds,
         |_| Ok(()),
         |engine| {
-            engine.load(rt.alloc(), source).map_err(refused)?;
+            engine.load(source).map_err(refused)?;
             Ok(1)
         },
     )
@@ -154,7 +154,7 @@ pub(crate) fn measure_loads<S: Source>(
     rounds: u32,
     source: &S,
 ) -> anyhow::Result<Engine> {
-    let mut engine = Engine::open(rt.alloc(), source);
+    let mut engine = Engine::open(Space::new(rt.alloc())?, source);
     let (states, components) = engine.standing().map_err(refused)?;
     println!(rt; "{name} states {states} components {components}")?;
     let loads = time_loads(rt, &mut engine, rounds, source)?;

@@ -32,7 +32,8 @@ fn the_export_is_not(rt: HostRuntime) {
 #[test]
 fn a_model_is_taken_apart(rt: HostRuntime) -> Result<(), Fail> {
     let heap = rt.alloc();
-    let model = Model::load(heap, &Band::new(2, 5, 40))?;
+    let mut model = Model::new(heap)?;
+    model.load(&Band::new(2, 5, 40))?;
     let parts = Parts::of(heap, &model)?;
     assert_eq!(rt; (parts.nodes(), parts.components()), (1, 1));
     assert_eq!(rt; (parts.node_of(4), parts.component_at(0)), (0, Some(0)));

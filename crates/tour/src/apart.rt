@@ -26,7 +26,8 @@ pub(crate) fn print_parts<S: Source>(rt: &HostRuntime, source: &S) -> io::Result
 
 // The engine's own copy of a table, and its parts.
 fn taken_apart<S: Source>(heap: Global, source: &S) -> Result<(Model, Parts), LoadFault> {
-    let model = Model::load(heap, source)?;
+    let mut model = Model::new(heap)?;
+    model.load(source)?;
     let parts = Parts::of(heap, &model)?;
     Ok((model, parts))
 }

@@ -22,13 +22,11 @@ returns c =
     let first = string_bytes c.in_ok-first.first in
     let put = c.in_ok-text.ensures.ok in
     record {
-      bytes = elim c.match-console-3.branch [
-        | in-Some+in_ok-put_replies w ↦ (
-          o.memory,
+      bytes = elim c.match-console-2.branch [
+        | in-Some+in_ok-put_replies w ↦
           going c.args.file.now c.args.input.now first _ _ o w.in-Some.console w.in-Some.is
-              (ap string_bytes w.text-is ∙ w.in_ok-put_replies.ensures ∙ ap (λ (bs : List ℕ). bs ++ bytes_of (replies 1 (held w.in-Some.console) (lines_of c.args.input.now))) put),
-        )
-        | in_default w ↦ (o.memory, ended c.args.file.now c.args.input.now first _ _ o w.in_default.is (ap string_bytes w.text-is ∙ put))
+              (ap string_bytes w.text-is ∙ w.in_ok-put_replies.ensures ∙ ap (λ (bs : List ℕ). bs ++ bytes_of (replies 1 (held w.in-Some.console) (lines_of c.args.input.now))) put)
+        | in_default w ↦ ended c.args.file.now c.args.input.now first _ _ o w.in_default.is (ap string_bytes w.text-is ∙ put)
       ];
       law = replies_law;
     }
