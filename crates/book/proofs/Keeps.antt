@@ -128,8 +128,7 @@ module _ (M : Setting) where
   room_true : (b : Book) → has_room b ≡ true → HasRoom b
   room_true b e =
       let p = split e in let q = split p.1 in let r = split q.1 in let s = split r.1 in let t = split s.1 in
-      let u = split t.1 in let v = split u.1 in let w = split v.1 in let x = split w.1 in
-      (
+      let u = split t.1 in let v = split u.1 in let w = split v.1 in let x = split w.1 in (
         leb-true 256 (vec_capacity b.vector) p.0,
         leb-true 256 (vec_capacity b.recorded) q.0,
         leb-true 256 (vec_capacity b.lo) r.0,

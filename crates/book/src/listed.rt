@@ -5,11 +5,7 @@ ghost use Rattle.book.specs.Listed.{link_of, Homes};
 use decomposition::Parts;
 
 // Writes each branch, with the node of its successor in the successor's place, over what the list holds.
-pub(crate) fn link_branches(
-    parts: &Parts,
-    branches: &[(u32, u32)],
-    links: &mut Vec<(u32, u32)>,
-)
+pub(crate) fn link_branches(parts: &Parts, branches: &[(u32, u32)], links: &mut Vec<(u32, u32)>)
     requires { length branches.now ≤ vec_capacity links.old }
     ensures links { links.new.items ≡ map (link_of (node_in parts.now)) branches.now }
     ensures room { vec_capacity links.old ≤ vec_capacity links.new }

@@ -41,9 +41,7 @@ impl Parts {
             kept: &scratch.kept,
             square: &scratch.square,
         });
-        scratch
-            .kept
-            .write_states(model.states(), &mut self.inside);
+        scratch.kept.write_states(model.states(), &mut self.inside);
     }
 
     // The components, the inside choices and the nodes of a model's table.

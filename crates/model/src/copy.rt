@@ -9,20 +9,13 @@ use table::Source;
 // The lists have room for the rows of every lawful table, so that nothing here asks for memory.
 
 // Adds the branches of a choice. Not by `extend`: no clause says that it succeeds where there is room.
-fn copy_branches<S: Source>(
-    source: &S,
-    state: u32,
-    choice: u32,
-    branches: &mut Vec<(u32, u32)>,
-)
+fn copy_branches<S: Source>(source: &S, state: u32, choice: u32, branches: &mut Vec<(u32, u32)>)
     requires room { length branches.old.items + (S.table source.now).branches state choice ≤ vec_capacity branches.old }
     ensures copied { BranchesCopied (S.table source.now) state choice branches.old.items branches.new.items }
     ensures room { vec_capacity branches.old ≤ vec_capacity branches.new }
 {
     for branch in 0..source.branches(state, choice) {
-        branches
-            .push(source.branch(state, choice, branch))
-            .unwrap();
+        branches.push(source.branch(state, choice, branch)).unwrap();
     }
 }
 

@@ -27,16 +27,16 @@ loop-state-preserved c =
     λ b e. append_assoc old (states_at node s v) b ∙ ap (λ xs. old ++ xs) (sym (states_more node s v ∙ ap (λ xs. states_at node s v ++ xs) e)) in
     elim c.if-node_of-node.branch [
       | then-node_of-node w ↦ (
-          ap vec_items w.members-is
-              ∙ pushed w.push.result w.unwrap.result (vec_items c.loop-state.members) _ _ w.unwrap.ensures w.push.ensures.items
-              ∙ ap (λ (xs : List ℕ). xs ++ (s ∷ [])) c.loop-state.invariant.0
-              ∙ more (s ∷ []) (ap (λ b. cond b (s ∷ []) []) (eq-eqb (node s) v (omega (arith, c.node_of.ensures, w.if-node_of-node.true)))),
-          let q = ap (λ m. vec_capacity m) w.members-is in omega arith,
-        )
+        ap vec_items w.members-is
+            ∙ pushed w.push.result w.unwrap.result (vec_items c.loop-state.members) _ _ w.unwrap.ensures w.push.ensures.items
+            ∙ ap (λ (xs : List ℕ). xs ++ (s ∷ [])) c.loop-state.invariant.0
+            ∙ more (s ∷ []) (ap (λ b. cond b (s ∷ []) []) (eq-eqb (node s) v (omega (arith, c.node_of.ensures, w.if-node_of-node.true)))),
+        let q = ap (λ m. vec_capacity m) w.members-is in omega arith,
+      )
       | else-node_of-node w ↦ (
-          ap vec_items w.members-is ∙ c.loop-state.invariant.0
-              ∙ sym (append-nil (old ++ states_at node s v))
-              ∙ more [] (ap (λ b. cond b (s ∷ []) []) (ne_eqb (node s) v (λ e. omega (arith, c.node_of.ensures, w.if-node_of-node.false)))),
-          let q = ap (λ m. vec_capacity m) w.members-is in omega arith,
-        )
+        ap vec_items w.members-is ∙ c.loop-state.invariant.0
+            ∙ sym (append-nil (old ++ states_at node s v))
+            ∙ more [] (ap (λ b. cond b (s ∷ []) []) (ne_eqb (node s) v (λ e. omega (arith, c.node_of.ensures, w.if-node_of-node.false)))),
+        let q = ap (λ m. vec_capacity m) w.members-is in omega arith,
+      )
     ]

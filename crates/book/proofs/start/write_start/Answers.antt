@@ -32,15 +32,15 @@ returns c =
       marks = S.marks;
       distances = S.distances;
       room = (
-          let a = c.fill.ensures.capacity in let r = S.room.0 in omega arith,
-          S.room.1,
-          let a = c.fill-2.ensures.capacity in let r = S.room.2 in omega arith,
-          let a = c.fill-3.ensures.capacity in let r = S.room.3 in omega arith,
-          let a = c.fill-4.ensures.capacity in let r = S.room.4 in omega arith,
-          let a = c.fill-5.ensures.capacity in let r = S.room.5 in omega arith,
-          S.room.6,
-          S.room.7,
-          S.room.8,
-          S.room.9,
-        );
+        let a = c.fill.ensures.capacity in let r = S.room.0 in omega arith,
+        S.room.1,
+        let a = c.fill-2.ensures.capacity in let r = S.room.2 in omega arith,
+        let a = c.fill-3.ensures.capacity in let r = S.room.3 in omega arith,
+        let a = c.fill-4.ensures.capacity in let r = S.room.4 in omega arith,
+        let a = c.fill-5.ensures.capacity in let r = S.room.5 in omega arith,
+        S.room.6,
+        S.room.7,
+        S.room.8,
+        S.room.9,
+      );
     }

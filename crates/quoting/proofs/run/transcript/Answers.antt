@@ -24,8 +24,8 @@ returns c =
     record {
       bytes = elim c.match-console-2.branch [
         | in-Some+in_ok-put_replies w ↦
-          going c.args.file.now c.args.input.now first _ _ o w.in-Some.console w.in-Some.is
-              (ap string_bytes w.text-is ∙ w.in_ok-put_replies.ensures ∙ ap (λ (bs : List ℕ). bs ++ bytes_of (replies 1 (held w.in-Some.console) (lines_of c.args.input.now))) put)
+            going c.args.file.now c.args.input.now first _ _ o w.in-Some.console w.in-Some.is
+            (ap string_bytes w.text-is ∙ w.in_ok-put_replies.ensures ∙ ap (λ (bs : List ℕ). bs ++ bytes_of (replies 1 (held w.in-Some.console) (lines_of c.args.input.now))) put)
         | in_default w ↦ ended c.args.file.now c.args.input.now first _ _ o w.in_default.is (ap string_bytes w.text-is ∙ put)
       ];
       law = replies_law;
