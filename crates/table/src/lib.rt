@@ -2,9 +2,11 @@
 #![tactic(auto)]
 
 mod fault;
+mod limits;
 mod source;
 mod walk;
 
 pub use fault::{Fault, Notice};
+pub use limits::{MOST_BRANCHES, MOST_CHOICES, MOST_DENOMINATOR, MOST_REWARD, MOST_STATES};
 pub use source::Source;
 pub use walk::check;

@@ -6,17 +6,10 @@ ghost use Rattle.table.specs.Walk.{branch_walk, head_walk, state_walk, first_bro
 ghost use Rattle.table.specs.Law.{WalkLaw, verdict};
 
 use crate::fault::Fault;
+use crate::limits::{
+    MOST_BRANCHES, MOST_CHOICES, MOST_DENOMINATOR, MOST_REWARD, MOST_STATES,
+};
 use crate::source::Source;
-
-const MOST_STATES: u32 = 256;
-
-const MOST_DENOMINATOR: u32 = 65_536;
-
-const MOST_CHOICES: u32 = 16;
-
-const MOST_REWARD: i32 = 1_000_000;
-
-const MOST_BRANCHES: u32 = 8;
 
 // The first broken limit of the source's table, or none: then the table is lawful.
 #[tactic(auto, using(crate::proofs::WalkLaw::walk_law))]
