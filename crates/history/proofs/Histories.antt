@@ -23,12 +23,11 @@ use Rattle.rules.specs.Promises.{upper_at, lower_at, excess}
 use Rattle.rules.specs.Sound.{Sound}
 use Rattle.rules.proofs.Promises.{every_sound}
 use Rattle.rules.specs.Promises as rules
-use Rattle.history.specs.Calls.{State, idle, loaded, Call, load, standing, refines, sweeping, close, quote, plan, count_within, fresh, opened, after_load, after_call, after_idle, next, run}
-use Rattle.history.specs.Answers.{refused, done, quoted, planned, load_answer, quote_answer, plan_answer, answer_loaded, answer}
-use Rattle.history.specs.Histories.{Holds, UpperPromise, LowerPromise, Tighter, Quiet, EveryHistory}
-use Rattle.history.specs.declared.refusal.Refusal.{Refusal}
+use Rattle.history.specs.Calls.{State, idle, loaded, Call, load, standing, refines, sweeping, close, quote, plan, count_within, fresh, opened, after_load, after_call, after_idle, next, run, BeginsAnew, Quiet}
+use Rattle.history.specs.Answers.{refused, quoted, planned, quote_answer, plan_answer, answer_loaded, answer}
+use Rattle.history.specs.Histories.{Holds, UpperPromise, LowerPromise, BoundsHold, Tighter, Onward, HistoryLaw}
 use Rattle.history.specs.declared.refusal.Refusal.TheVariants as refusal
-use Rattle.history.proofs.Refusing.{found_or_none, answer_kept, after_broken, after_kept}
+use Rattle.history.proofs.Refusing.{found_or_none, after_broken, after_kept, opens}
 
 -- Bounds that stay, and bounds that tighten twice
 
@@ -98,13 +97,9 @@ module _ (T : Table) (B : Book) where
 -- Opens
 
 module _ (T : Table) where
-  open_broken : (e : Fault) → fault_of T ≡ Some e → opened T ≡ idle (refusal.Table e)
+  open_broken : (e : Fault) → fault_of T ≡ Some e → opened T ≡ idle e
   unfolding opened
-  open_broken e h = ap (λ (o : Option Fault). elim o [ Some d ↦ idle (refusal.Table d) | None ↦ fresh T ]) h
-
-  open_kept : fault_of T ≡ None → opened T ≡ fresh T
-  unfolding opened
-  open_kept h = ap (λ (o : Option Fault). elim o [ Some d ↦ idle (refusal.Table d) | None ↦ fresh T ]) h
+  open_broken e h = ap (λ (o : Option Fault). elim o [ Some d ↦ idle d | None ↦ fresh T ]) h
 
 -- Every history
 
@@ -125,7 +120,7 @@ good_open : (T : Table) → Good (opened T)
 unfolding Good
 good_open T =
     elim (found_or_none (fault_of T)) [
-      | inl h ↦ subst Good (sym (open_kept T h)) (good_fresh T h)
+      | inl h ↦ subst Good (sym (opens T h)) (good_fresh T h)
       | inr w ↦ subst Good (sym (open_broken T w.0 w.1)) tt
     ]
 
@@ -154,7 +149,7 @@ good_call T B close g = (g.0, (every_sound (setting_of T) g.0).starts)
 good_call T B (quote s width) g = g
 good_call T B (plan list) g = g
 
-good_idle : (e : Refusal) (c : Call) → Good (after_idle e c)
+good_idle : (e : Fault) (c : Call) → Good (after_idle e c)
 unfolding Good after_idle
 good_idle e (load T) = good_load T (idle e) tt
 good_idle e standing = tt
@@ -219,25 +214,25 @@ lower_good (loaded T' B) T g h list written a =
 -- Bounds that only tighten
 
 -- the engine still holds T, with a book whose bounds are no wider
-record Onward (T : Table) (B : Book) (S : State) : Type 0 where
+record Follows (T : Table) (B : Book) (S : State) : Type 0 where
   book : Book
   held : S ≡ loaded T book
   good : Good (loaded T book)
   tighter : rules.Tighter (setting_of T) B book
 
-stays : (T : Table) (B : Book) → Good (loaded T B) → Onward T B (loaded T B)
+stays : (T : Table) (B : Book) → Good (loaded T B) → Follows T B (loaded T B)
 stays T B g = record { book = B; held = refl; good = g; tighter = still (setting_of T) B }
 
-quiet_load : (T : Table) (B : Book) → Good (loaded T B) → (T' : Table) → (load_answer T' ≡ done → ⊥)
-    → Onward T B (after_load T' (loaded T B))
+quiet_load : (T : Table) (B : Book) → Good (loaded T B) → (T' : Table) → ¬ (fault_of T' ≡ None)
+    → Follows T B (after_load T' (loaded T B))
 quiet_load T B g T' n =
     elim (found_or_none (fault_of T')) [
-      | inl h ↦ absurd (n (answer_kept T' h))
-      | inr w ↦ subst (Onward T B) (sym (after_broken T' w.0 (loaded T B) w.1)) (stays T B g)
+      | inl h ↦ absurd (n h)
+      | inr w ↦ subst (Follows T B) (sym (after_broken T' w.0 (loaded T B) w.1)) (stays T B g)
     ]
 
-quiet_call : (T : Table) (B : Book) → Good (loaded T B) → (c : Call) → (answer_loaded T B c ≡ done → ⊥) → Onward T B (after_call T B c)
-unfolding Good answer_loaded after_call
+quiet_call : (T : Table) (B : Book) → Good (loaded T B) → (c : Call) → ¬ BeginsAnew (loaded T B) c → Follows T B (after_call T B c)
+unfolding Good after_call
 quiet_call T B g (load T') n = quiet_load T B g T' n
 quiet_call T B g standing n = stays T B g
 quiet_call T B g (refines k m width) n =
@@ -247,30 +242,30 @@ quiet_call T B g (refines k m width) n =
       | inl a ↦ (
           let l = ltb-true k (components T) (and_parts (ltb k (components T)) (count_within m) a).0 in
           let r = every_sound (setting_of T) g.0 in
-          subst (Onward T B) (sym (cond-true both (loaded T made) (loaded T B) a))
+          subst (Follows T B) (sym (cond-true both (loaded T made) (loaded T B) a))
           (record { book = made; held = refl; good = (g.0, r.refined k m width l B g.1); tighter = r.refining k m width l B g.1 }))
-      | inr a ↦ subst (Onward T B) (sym (cond-false both (loaded T made) (loaded T B) a)) (stays T B g)
+      | inr a ↦ subst (Follows T B) (sym (cond-false both (loaded T made) (loaded T B) a)) (stays T B g)
     ]
 quiet_call T B g (sweeping m) n =
     let made = (sweeps (setting_of T) m B).book in
     elim (cases_Bool (count_within m)) [
       | inl a ↦ (
           let r = every_sound (setting_of T) g.0 in
-          subst (Onward T B) (sym (cond-true (count_within m) (loaded T made) (loaded T B) a))
+          subst (Follows T B) (sym (cond-true (count_within m) (loaded T made) (loaded T B) a))
           (record { book = made; held = refl; good = (g.0, r.swept m B g.1); tighter = r.sweeping m B g.1 }))
-      | inr a ↦ subst (Onward T B) (sym (cond-false (count_within m) (loaded T made) (loaded T B) a)) (stays T B g)
+      | inr a ↦ subst (Follows T B) (sym (cond-false (count_within m) (loaded T made) (loaded T B) a)) (stays T B g)
     ]
-quiet_call T B g close n = absurd (n refl)
+quiet_call T B g close n = absurd (n tt)
 quiet_call T B g (quote s width) n = stays T B g
 quiet_call T B g (plan list) n = stays T B g
 
-onward : (T : Table) (B : Book) → Good (loaded T B) → (calls : List Call) → Quiet (loaded T B) calls → Onward T B (run (loaded T B) calls)
-unfolding run next answer
+onward : (T : Table) (B : Book) → Good (loaded T B) → (calls : List Call) → Quiet (loaded T B) calls → Follows T B (run (loaded T B) calls)
+unfolding run next
 onward T B g [] q = stays T B g
 onward T B g (c ∷ cs) q =
     let o = quiet_call T B g c q.0 in
     let r = onward T o.book o.good cs (subst (λ (S : State). Quiet S cs) o.held q.1) in
-    subst (λ (S : State). Onward T B (run S cs)) (sym o.held)
+    subst (λ (S : State). Follows T B (run S cs)) (sym o.held)
     (record { book = r.book; held = r.held; good = r.good; tighter = twice (setting_of T) B o.book r.book o.tighter r.tighter })
 
 tighter_answers : (T : Table) (A B : Book) → rules.Tighter (setting_of T) A B → Tighter (loaded T A) (loaded T B) T
@@ -294,12 +289,20 @@ tight_good (loaded T' B) T later g h q =
     subst (λ (R : Table). Holds (run (loaded T' B) later) R × Tighter (loaded T' B) (run (loaded T' B) later) R) h
     (subst (λ (S : State). Holds S T' × Tighter (loaded T' B) S T') (sym o.held) (refl, tighter_answers T' B o.book o.tighter))
 
-pub every_history : EveryHistory
+bounds_hold : (S : State) → Good S → BoundsHold S
+bounds_hold S g = record {
+  lawful = λ T h. lawful_good S T g h;
+  upper = λ T h. upper_good S T g h;
+  lower = λ T h. lower_good S T g h;
+}
+
+pub every_history : (T : Table) → HistoryLaw T
 every_history T =
     let good : (calls : List Call) → Good (run (opened T) calls) = λ calls. good_run (opened T) calls (good_open T) in
     record {
-      lawful = λ calls R h. lawful_good (run (opened T) calls) R (good calls) h;
-      upper = λ calls R h. upper_good (run (opened T) calls) R (good calls) h;
-      lower = λ calls R h. lower_good (run (opened T) calls) R (good calls) h;
-      tight = λ calls later R h q. tight_good (run (opened T) calls) R later (good calls) h q;
+      holds = λ calls. bounds_hold (run (opened T) calls) (good calls);
+      tightens = λ calls later q. record {
+        table = λ R h. (tight_good (run (opened T) calls) R later (good calls) h q).0;
+        tighter = λ R h. (tight_good (run (opened T) calls) R later (good calls) h q).1;
+      };
     }

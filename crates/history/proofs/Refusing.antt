@@ -3,15 +3,21 @@ use Rattle.std.proofs.Common.{◌≡◌, ℕ, Bool, true, false, cond, ◌&&◌,
 use Rattle.std.proofs.lemmas.Bool.{and_cases, and_left, and_parts, and_right, cases_Bool, cond-true, cond-false, le-ltb, leb-false, lt-leb, lt-ltb, ltb-false, ltb-true}
 use Rattle.table.specs.Table.{Table}
 use Rattle.table.specs.Walk.{fault_of}
+use Rattle.table.specs.Faults.{Limit, notice_of}
 use Rattle.table.specs.declared.fault.Fault.{Fault}
+use Rattle.table.specs.declared.fault.Fault.TheVariants.{States, Denominator, Choices, Reward, Branches, Successor, Weight, Repeated, Sum}
+use Rattle.table.specs.declared.fault.Notice.{Notice}
+use Rattle.table.proofs.WalkLaw.{walk_law}
 use Rattle.components.specs.Nodes.{components}
 use Rattle.rules.specs.Book.{Book}
 use Rattle.rules.specs.Setting.{setting_of}
 use Rattle.rules.specs.Refine.{refine}
 use Rattle.rules.specs.Sweep.{sweeps}
 use Rattle.history.specs.Calls.{State, idle, loaded, Call, load, standing, refines, sweeping, close, quote, plan, count_within, fresh, opened, after_load, after_call, after_idle, next, run}
-use Rattle.history.specs.Answers.{refused, done, stands, swept, load_answer, refine_answer, quote_answer, plan_answer, answer_loaded, answer_idle, answer, answers}
-use Rattle.history.specs.Refusing.{NeedsTable, Miscounted, Reason, broken, unopened, needed, no_component, bad_steps, bad_sweeps, no_state, no_room, AsOpened, RefusalLaw}
+use Rattle.history.specs.Answers.{refused, done, stands, unopened, swept, load_answer, refine_answer, quote_answer, plan_answer, answer_loaded, answer_idle, answer, answers}
+use Rattle.history.specs.Refusals.{refusal_notice}
+use Rattle.history.specs.Refusing.{Breaks, NeedsTable, Miscounted, Reason, broken, needed, no_component, bad_steps, bad_sweeps, no_state, no_room, RefusedWith, AsOpened, RefusalLaw}
+use Rattle.history.specs.Refusing as limits
 use Rattle.history.specs.declared.refusal.Refusal.{Refusal}
 use Rattle.history.specs.declared.refusal.Refusal.TheVariants as refusal
 
@@ -27,8 +33,8 @@ same : (d e : Refusal) → refused d ≡ refused e → d ≡ e
 same d e h = cc
 
 -- a reason for d is one for e
-moved : {S : State} {c : Call} (d e : Refusal) → Reason S c d → refused d ≡ refused e → Reason S c e
-moved {S} {c} d e r h = subst (Reason S c) (same d e h) r
+moved : {S : State} {c : Call} (d e : Refusal) → Reason S c (refusal_notice d) → refused d ≡ refused e → Reason S c (refusal_notice e)
+moved {S} {c} d e r h = subst (λ (x : Refusal). Reason S c (refusal_notice x)) (same d e h) r
 
 -- a count that is tested
 pub miscounted : (n : ℕ) → count_within n ≡ false → Miscounted n
@@ -61,7 +67,7 @@ module _ (T : Table) where
   unfolding after_load
   after_kept S h = ap (λ (o : Option Fault). elim o as (λ _. State) [ Some d ↦ S | None ↦ fresh T ]) h
 
-load_reason : (S : State) (T : Table) (e : Refusal) → load_answer T ≡ refused e → Reason S (load T) e
+load_reason : (S : State) (T : Table) (e : Refusal) → load_answer T ≡ refused e → Reason S (load T) (refusal_notice e)
 load_reason S T e h =
     elim (found_or_none (fault_of T)) [
       | inl k ↦ never e (sym (answer_kept T k) ∙ h)
@@ -96,7 +102,7 @@ module _ (T : Table) (B : Book) where
   stands_accepted : {P : Type 0} (n k : ℕ) (e : Refusal) → stands n k ≡ refused e → P
   stands_accepted n k e h = let z : ◌≡◌ {A = ℕ} 0 1 = cc in absurd (omega arith)
 
-  loaded_reason : (c : Call) (e : Refusal) → answer_loaded T B c ≡ refused e → Reason (loaded T B) c e
+  loaded_reason : (c : Call) (e : Refusal) → answer_loaded T B c ≡ refused e → Reason (loaded T B) c (refusal_notice e)
   unfolding answer_loaded
   loaded_reason (load T') e h = load_reason (loaded T B) T' e h
   loaded_reason standing e h = stands_accepted T.states (components T) e h
@@ -133,17 +139,17 @@ module _ (T : Table) (B : Book) where
             (sym (cond-false (leb T.states (length list)) (plan_answer T B list) (refused refusal.Room) a) ∙ h)
       ]
 
-idle_reason : (d : Refusal) (c : Call) (e : Refusal) → answer_idle d c ≡ refused e → Reason (idle d) c e
+idle_reason : (d : Fault) (c : Call) (e : Refusal) → answer_idle d c ≡ refused e → Reason (idle d) c (refusal_notice e)
 unfolding answer_idle
 idle_reason d (load T) e h = load_reason (idle d) T e h
-idle_reason d standing e h = moved d e unopened h
+idle_reason d standing e h = let z : ◌≡◌ {A = ℕ} 0 1 = cc in absurd (omega arith)
 idle_reason d (refines k n width) e h = moved refusal.Idle e (needed tt) h
 idle_reason d (sweeping n) e h = moved refusal.Idle e (needed tt) h
 idle_reason d close e h = moved refusal.Idle e (needed tt) h
 idle_reason d (quote s width) e h = moved refusal.Idle e (needed tt) h
 idle_reason d (plan list) e h = moved refusal.Idle e (needed tt) h
 
-has_reason : (S : State) (c : Call) (e : Refusal) → answer S c ≡ refused e → Reason S c e
+has_reason : (S : State) (c : Call) (e : Refusal) → answer S c ≡ refused e → Reason S c (refusal_notice e)
 unfolding answer
 has_reason (idle d) c e h = idle_reason d c e h
 has_reason (loaded T B) c e h = loaded_reason T B c e h
@@ -155,7 +161,7 @@ unfolding answer answer_idle answer_loaded
 load-answer (idle d) T = refl
 load-answer (loaded T' B) T = refl
 
-needs_table_refused : (d : Refusal) (c : Call) → NeedsTable c → answer_idle d c ≡ refused refusal.Idle
+needs_table_refused : (d : Fault) (c : Call) → NeedsTable c → answer_idle d c ≡ refused refusal.Idle
 unfolding answer_idle
 needs_table_refused d (load T) n = absurd n
 needs_table_refused d standing n = absurd n
@@ -165,20 +171,52 @@ needs_table_refused d close n = refl
 needs_table_refused d (quote s width) n = refl
 needs_table_refused d (plan list) n = refl
 
-refused_by : (S : State) (c : Call) (e : Refusal) → Reason S c e → answer S c ≡ refused e
+refused_by : (S : State) (c : Call) (n : Notice) → Reason S c n → RefusedWith S c n
 unfolding answer answer_idle answer_loaded
-refused_by S c e (broken {T} {e = d} h) = load-answer S T ∙ answer_broken T d h
-refused_by S c e unopened = refl
-refused_by (idle d) c e (needed n) = needs_table_refused d c n
-refused_by S c e (no_component {T} {B} {k} {n} {width} h) =
-    cond-false (ltb k (components T)) (cond (count_within n) (refine_answer T B k n width) (refused refusal.Count)) (refused refusal.Component) (le-ltb k (components T) h)
-refused_by S c e (bad_steps {T} {B} {k} {n} {width} l h) =
-    cond-true (ltb k (components T)) (cond (count_within n) (refine_answer T B k n width) (refused refusal.Count)) (refused refusal.Component) (lt-ltb k (components T) l)
-    ∙ cond-false (count_within n) (refine_answer T B k n width) (refused refusal.Count) (not_within n h)
-refused_by S c e (bad_sweeps {T} {B} {n} h) = cond-false (count_within n) (swept (sweeps (setting_of T) n B).made) (refused refusal.Count) (not_within n h)
-refused_by S c e (no_state {T} {B} {s} {width} h) = cond-false (ltb s T.states) (quote_answer T B s width) (refused refusal.State) (le-ltb s T.states h)
-refused_by S c e (no_room {T} {B} {list} h) =
-    cond-false (leb T.states (length list)) (plan_answer T B list) (refused refusal.Room) (lt-leb T.states (length list) h)
+refused_by S c n (broken {T} {e} h) = record { refusal = refusal.Table e; answers = load-answer S T ∙ answer_broken T e h; numbered = refl }
+refused_by (idle d) c n (needed h) = record { refusal = refusal.Idle; answers = needs_table_refused d c h; numbered = refl }
+refused_by S c n (no_component {T} {B} {k} {n = steps} {width} h) = record {
+  refusal = refusal.Component;
+  answers = cond-false (ltb k (components T)) (cond (count_within steps) (refine_answer T B k steps width) (refused refusal.Count)) (refused refusal.Component)
+      (le-ltb k (components T) h);
+  numbered = refl;
+}
+refused_by S c n (no_state {T} {B} {s} {width} h) = record {
+  refusal = refusal.State;
+  answers = cond-false (ltb s T.states) (quote_answer T B s width) (refused refusal.State) (le-ltb s T.states h);
+  numbered = refl;
+}
+refused_by S c n (bad_steps {T} {B} {k} {n = steps} {width} l h) = record {
+  refusal = refusal.Count;
+  answers =
+      cond-true (ltb k (components T)) (cond (count_within steps) (refine_answer T B k steps width) (refused refusal.Count)) (refused refusal.Component)
+      (lt-ltb k (components T) l)
+      ∙ cond-false (count_within steps) (refine_answer T B k steps width) (refused refusal.Count) (not_within steps h);
+  numbered = refl;
+}
+refused_by S c n (bad_sweeps {T} {B} {n = count} h) = record {
+  refusal = refusal.Count;
+  answers = cond-false (count_within count) (swept (sweeps (setting_of T) count B).made) (refused refusal.Count) (not_within count h);
+  numbered = refl;
+}
+refused_by S c n (no_room {T} {B} {list} h) = record {
+  refusal = refusal.Room;
+  answers = cond-false (leb T.states (length list)) (plan_answer T B list) (refused refusal.Room) (lt-leb T.states (length list) h);
+  numbered = refl;
+}
+
+-- The number of a fault
+
+breaks_of : (T : Table) (e : Fault) → (Limit T e → ⊥) → Breaks T (notice_of e)
+breaks_of T States h = limits.states h
+breaks_of T Denominator h = limits.denominator h
+breaks_of T (Choices s) h = limits.choices s h
+breaks_of T (Reward s c) h = limits.reward s c h
+breaks_of T (Branches s c) h = limits.branches s c h
+breaks_of T (Successor s c b) h = limits.successor s c b h
+breaks_of T (Weight s c b) h = limits.weight s c b h
+breaks_of T (Repeated s c b) h = limits.repeated s c b h
+breaks_of T (Sum s c) h = limits.sum s c h
 
 -- A refusal changes nothing
 
@@ -207,7 +245,7 @@ loaded_unchanged T B close e h = never e h
 loaded_unchanged T B (quote s width) e h = refl
 loaded_unchanged T B (plan list) e h = refl
 
-idle_unchanged : (d : Refusal) (c : Call) (e : Refusal) → answer_idle d c ≡ refused e → after_idle d c ≡ idle d
+idle_unchanged : (d : Fault) (c : Call) (e : Refusal) → answer_idle d c ≡ refused e → after_idle d c ≡ idle d
 unfolding answer_idle after_idle
 idle_unchanged d (load T) e h = load_unchanged (idle d) T e h
 idle_unchanged d standing e h = refl
@@ -229,9 +267,9 @@ unfolding next after_idle after_call
 next_load (idle d) T = refl
 next_load (loaded T' B) T = refl
 
-opens : (T : Table) → fault_of T ≡ None → opened T ≡ fresh T
+pub opens : (T : Table) → fault_of T ≡ None → opened T ≡ fresh T
 unfolding opened
-opens T h = ap (λ (o : Option Fault). elim o [ Some e ↦ idle (refusal.Table e) | None ↦ fresh T ]) h
+opens T h = ap (λ (o : Option Fault). elim o [ Some e ↦ idle e | None ↦ fresh T ]) h
 
 pub forgets : (S : State) (calls : List Call) (T : Table) → fault_of T ≡ None → run S (calls ++ (load T ∷ [])) ≡ opened T
 unfolding run
@@ -280,7 +318,10 @@ old_fault first faulty T calls e r a =
 
 pub refusal_law : RefusalLaw
 refusal_law = record {
-  exactly = λ S c e. (has_reason S c e, refused_by S c e);
+  reasoned = has_reason;
+  refuses = refused_by;
+  numbers = λ T e h. breaks_of T e ((walk_law T).first e h).broken;
+  walks = walk_law;
   unchanged = unchanged;
   closes = closes;
   reopens = reopens;

@@ -2,6 +2,7 @@
 use Rattle.std.specs.Prelude.{ℕ, cond, List, [], ◌∷◌, ◌++◌, length, drop, ℤ, pos, ◌-ℤ◌, Some, None, int_le, nat_le, nat_lt}
 use Rattle.table.specs.Table.{Table}
 use Rattle.table.specs.Walk.{fault_of}
+use Rattle.table.specs.declared.fault.Fault.{Fault}
 use Rattle.components.specs.Nodes.{components}
 use Rattle.rules.specs.Choosing.{tabulate, at_z}
 use Rattle.rules.specs.Setting.{setting_of}
@@ -18,8 +19,10 @@ pub data Answer : Type 0 where
   refused : Refusal → Answer
   -- a load or a close
   done : Answer
-  -- states and components
+  -- standing: states and components
   stands : ℕ → ℕ → Answer
+  -- standing of an idle engine: the fault of its open
+  unopened : Fault → Answer
   -- steps made, lo and hi of the component then
   refined : ℕ → ℤ → ℤ → Answer
   -- sweeps made
@@ -64,10 +67,10 @@ answer_loaded T B close = done
 answer_loaded T B (quote s width) = cond (nat_lt s T.states) (quote_answer T B s width) (refused refusal.State)
 answer_loaded T B (plan list) = cond (nat_le T.states (length list)) (plan_answer T B list) (refused refusal.Room)
 
--- an idle engine: standing answers the refusal of its open, and what needs a table is refused
-unfoldable pub answer_idle : Refusal → Call → Answer
+-- an idle engine: standing answers the fault of its open, and what needs a table is refused
+unfoldable pub answer_idle : Fault → Call → Answer
 answer_idle e (load T) = load_answer T
-answer_idle e standing = refused e
+answer_idle e standing = unopened e
 answer_idle e (refines k n width) = refused refusal.Idle
 answer_idle e (sweeping n) = refused refusal.Idle
 answer_idle e close = refused refusal.Idle

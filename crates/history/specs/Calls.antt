@@ -1,18 +1,17 @@
 -- The calls of an engine and what it holds after each.
-use Rattle.std.specs.Prelude.{ℕ, Bool, cond, ◌&&◌, List, [], ◌∷◌, Some, None, nat_le, nat_lt}
+use Rattle.std.specs.Prelude.{◌≡◌, ℕ, Bool, cond, ◌&&◌, List, [], ◌∷◌, Some, None, nat_le, nat_lt}
 use Rattle.table.specs.Table.{Table}
 use Rattle.table.specs.Walk.{fault_of}
+use Rattle.table.specs.declared.fault.Fault.{Fault}
 use Rattle.components.specs.Nodes.{components}
 use Rattle.rules.specs.Setting.{setting_of}
 use Rattle.rules.specs.Book.{Book, start}
 use Rattle.rules.specs.Refine.{refine}
 use Rattle.rules.specs.Sweep.{sweeps}
-use Rattle.history.specs.declared.refusal.Refusal.{Refusal}
-use Rattle.history.specs.declared.refusal.Refusal.TheVariants as refusal
 
--- what an engine holds: nothing but the refusal of its open, or a table with its book
+-- what an engine holds: nothing but the fault of its open, or a table with its book
 pub data State : Type 0 where
-  idle : Refusal → State
+  idle : Fault → State
   loaded : Table → Book → State
 
 -- a call with its arguments
@@ -43,7 +42,7 @@ fresh T = loaded T (start (setting_of T))
 unfoldable pub opened : Table → State
 opened T =
     elim (fault_of T) [
-      | Some e ↦ idle (refusal.Table e)
+      | Some e ↦ idle e
       | None ↦ fresh T
     ]
 
@@ -66,7 +65,7 @@ after_call T B (quote s width) = loaded T B
 after_call T B (plan list) = loaded T B
 
 -- what an idle engine holds after a call: only an accepted load changes it
-unfoldable pub after_idle : Refusal → Call → State
+unfoldable pub after_idle : Fault → Call → State
 after_idle e (load T) = after_load T (idle e)
 after_idle e standing = idle e
 after_idle e (refines k n width) = idle e
@@ -83,3 +82,23 @@ next (loaded T B) c = after_call T B c
 unfoldable pub run : State → List Call → State
 run S [] = S
 run S (c ∷ cs) = run (next S c) cs
+
+-- the engine holds a table
+abbrev pub IsLoaded : State → Type 0
+IsLoaded (idle e) = ⊥
+IsLoaded (loaded T B) = Unit {0}
+
+-- the calls that begin anew: a load of a table that keeps all limits, and a close of an engine that holds a table
+abbrev pub BeginsAnew : State → Call → Type 0
+BeginsAnew S (load T) = fault_of T ≡ None
+BeginsAnew S standing = ⊥
+BeginsAnew S (refines k n width) = ⊥
+BeginsAnew S (sweeping n) = ⊥
+BeginsAnew S close = IsLoaded S
+BeginsAnew S (quote s width) = ⊥
+BeginsAnew S (plan list) = ⊥
+
+-- none of the calls begins anew
+abbrev pub Quiet : State → List Call → Type 0
+Quiet S [] = Unit {0}
+Quiet S (c ∷ cs) = (¬ BeginsAnew S c) × Quiet (next S c) cs

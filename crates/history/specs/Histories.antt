@@ -1,5 +1,5 @@
 -- The law over whole histories: what holds after the open and after every call, whatever the calls were.
-use Rattle.std.specs.Prelude.{◌≡◌, ℕ, ◌^◌, ◌<◌, List, [], ◌∷◌, ℤ, pos, ◌+ℤ◌, ◌-ℤ◌, ◌*ℤ◌, ◌≤ℤ◌, ◌≢◌, slice_index}
+use Rattle.std.specs.Prelude.{◌≡◌, ℕ, ◌^◌, ◌<◌, List, [], ℤ, pos, ◌+ℤ◌, ◌-ℤ◌, ◌*ℤ◌, ◌≤ℤ◌, slice_index}
 use Rattle.table.specs.Table.{Table}
 use Rattle.table.specs.Limits.{Lawful}
 use Rattle.horizon.specs.Strategies.{Strategy, Names, PlanNames, follow, scaled_reward}
@@ -7,8 +7,8 @@ use Rattle.components.specs.Nodes.{components}
 use Rattle.rules.specs.Choosing.{at_z}
 use Rattle.rules.specs.Setting.{scale_in_use, setting_of}
 use Rattle.rules.specs.Promises.{excess}
-use Rattle.history.specs.Calls.{State, idle, loaded, Call, quote, plan, opened, next, run}
-use Rattle.history.specs.Answers.{done, quoted, planned, answer}
+use Rattle.history.specs.Calls.{State, idle, loaded, Call, quote, plan, opened, run, Quiet}
+use Rattle.history.specs.Answers.{quoted, planned, answer}
 
 -- the engine holds the table T
 abbrev pub Holds : State → Table → Type 0
@@ -40,6 +40,16 @@ pub record LowerPromise (S : State) (T : Table) (plays : ℕ → ℕ) : Type 0 w
       → (L U : ℤ) (mark : ℕ) → answer S (quote s width) ≡ quoted L U mark
       → (pos (T.denominator ^ N) *ℤ ((pos N *ℤ L) -ℤ pos (excess (setting_of T)))) ≤ℤ (pos scale_in_use *ℤ scaled_reward T (follow plays) N s [])
 
+-- What the engine would answer now, of the table that it holds, if any:
+pub record BoundsHold (S : State) : Type 0 where
+  -- that table keeps all limits
+  pub lawful : (T : Table) → Holds S T → Lawful T
+  -- no strategy beats the upper bound by more than C
+  pub upper : (T : Table) → Holds S T → UpperPromise S T
+  -- the plan of this moment earns the lower bound less C
+  pub lower : (T : Table) → Holds S T → (list written : List ℕ) → answer S (plan list) ≡ planned written
+      → LowerPromise S T (λ s. slice_index written s)
+
 -- No upper bound rises and no lower bound falls from R to S, of a state or of a component.
 pub record Tighter (R S : State) (T : Table) : Type 0 where
   pub states : (s v w : ℕ) → s < T.states
@@ -47,29 +57,15 @@ pub record Tighter (R S : State) (T : Table) : Type 0 where
       → (L ≤ℤ L') × (U' ≤ℤ U)
   pub components : (k : ℕ) → k < components T → (lo_of R k ≤ℤ lo_of S k) × (hi_of S k ≤ℤ hi_of R k)
 
--- none of the calls is an accepted load or a close of a loaded engine: just these answer `done`
-abbrev pub Quiet : State → List Call → Type 0
-Quiet S [] = Unit {0}
-Quiet S (c ∷ cs) = (answer S c ≢ done) × Quiet (next S c) cs
+-- from R to S the table stays and bounds only tighten
+pub record Onward (R S : State) : Type 0 where
+  pub table : (T : Table) → Holds R T → Holds S T
+  pub tighter : (T : Table) → Holds R T → Tighter R S T
 
--- After an open, accepted or refused, and any list of calls, loads with any tables and refused calls among them,
--- of the table that the engine then holds:
+-- After an open, accepted or refused, and any list of calls, loads with any tables and refused calls among them:
 pub record HistoryLaw (opening : Table) : Type 0 where
-  -- it keeps all limits
-  pub lawful : (calls : List Call) (T : Table) → Holds (run (opened opening) calls) T → Lawful T
-  -- no strategy beats the upper bound by more than C
-  pub upper : (calls : List Call) (T : Table) → Holds (run (opened opening) calls) T
-      → UpperPromise (run (opened opening) calls) T
-  -- the plan of that moment earns the lower bound less C
-  pub lower : (calls : List Call) (T : Table) → Holds (run (opened opening) calls) T
-      → (list written : List ℕ) → answer (run (opened opening) calls) (plan list) ≡ planned written
-      → LowerPromise (run (opened opening) calls) T (λ s. slice_index written s)
-  -- bounds only tighten until the next accepted load or close
-  pub tight : (calls later : List Call) (T : Table) → Holds (run (opened opening) calls) T
-      → Quiet (run (opened opening) calls) later
-      → Holds (run (run (opened opening) calls) later) T
-      × Tighter (run (opened opening) calls) (run (run (opened opening) calls) later) T
-
--- for every table
-abbrev pub EveryHistory : Type 0
-EveryHistory = (T : Table) → HistoryLaw T
+  -- bounds and plan hold
+  pub holds : (calls : List Call) → BoundsHold (run (opened opening) calls)
+  -- and until the next accepted load or close bounds only tighten
+  pub tightens : (calls later : List Call) → Quiet (run (opened opening) calls) later
+      → Onward (run (opened opening) calls) (run (run (opened opening) calls) later)
