@@ -624,10 +624,10 @@ def lists(table):
 
 
 def call_bytes(name, *values):
-    """A call: its letter and its arguments. The list of a plan has zeros before, and only its length is written."""
+    """A call: its letter and its arguments. Of the list of a plan these are how many places it has and what each holds before."""
     if name == "load":
         return LETTERS[name] + lists(*values)
-    return LETTERS[name] + b"".join(struct.pack("<Q", v) for v in (values[:1] if name == "plan" else values))
+    return LETTERS[name] + b"".join(struct.pack("<Q", v) for v in values)
 
 
 def emit_quote(case):
@@ -637,18 +637,17 @@ def emit_quote(case):
 
 def emit_replay(case):
     """A replay case in the file of cases, and a line for each answer; the last one is the engine's standing then."""
-    calls = [("plan", call[1], 0) if call[0] == "plan" else call for call in case.calls]
-    data = lists(case.table) + word(len(calls)) + b"".join(call_bytes(*call) for call in calls)
-    answers = plain_solver.replay(case.table, calls + [("standing",)])
+    data = lists(case.table) + word(len(case.calls)) + b"".join(call_bytes(*call) for call in case.calls)
+    answers = plain_solver.replay(case.table, case.calls + [("standing",)])
     lines = [answer_line(*answer) for answer in answers]
     return b"H" + sized(case.group.encode()) + data, "".join(line + "\n" for line in lines).encode()
 
 
 def answer_line(name, *values):
-    """The line of an answer: a letter and numbers. A refusal has three places, 0 where it has none."""
-    letters = {"done": "D", "standing": "L", "refine": "R", "sweep": "S", "quote": "Q", "plan": "P"}
+    """The line of an answer: a letter and numbers. A refusal, and the fault of an open, has three places, 0 where it has none."""
+    letters = {"done": "D", "standing": "L", "refine": "R", "sweep": "S", "quote": "Q", "plan": "P", "refused": "E", "fault": "F"}
     if name in ("refused", "fault"):
-        return " ".join(map(str, ("E", *values, 0, 0, 0)[:5]))
+        return " ".join(map(str, (letters[name], *values, 0, 0, 0)[:5]))
     return " ".join(map(str, (letters[name], *(values[0] if name == "plan" else values))))
 
 

@@ -35,7 +35,7 @@ fn print_day<'a>(rt: &HostRuntime, band: &Band, list: &List<'a>) -> io::Result<(
     print_refine(rt, &mut engine, 0, 100)?;
     print_sweep(rt, &mut engine, 10)?;
     print_quote(rt, &engine, 0)?;
-    print_plan(rt, &mut engine)?;
+    print_plan(rt, &engine)?;
     println!(rt; "3. The export comes again and is refused: the bounds stay.")?;
     print_done(rt, engine.load(list))?;
     print_quote(rt, &engine, 0)

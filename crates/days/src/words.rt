@@ -2,42 +2,30 @@ use engine::Answer;
 use history::Refusal;
 use std::fmt;
 
-// What a call answered, in words.
+// What a call answered, in words; of a refusal its number, and its place in the table where it has one.
 #[derive(Drop)]
-pub(crate) struct Words<'a>(pub(crate) &'a Result<Answer, Refusal>);
-
-// A refusal in words: its number, and its place in the table where it has one.
-#[derive(Drop)]
-pub(crate) struct Refused(pub(crate) Refusal);
+pub(crate) struct Words(pub(crate) Answer);
 
 // The choices of a plan in words.
 #[derive(Drop)]
 pub(crate) struct Plan<'a>(pub(crate) &'a [u32]);
 
-impl fmt::Display for Words<'_> {
+impl fmt::Display for Words {
     fn fmt<W: fmt::Write>(&self, f: &mut fmt::Formatter<W>) -> fmt::Result {
         match self.0 {
-            Ok(Answer::Done) => write!(f, "accepted"),
-            Ok(Answer::Stands { states, components }) => {
+            Answer::Done => write!(f, "accepted"),
+            Answer::Stands { states, components } => {
                 write!(f, "standing: {states} states, {components} components")
             }
-            Ok(Answer::Refined { made, lo, hi }) => write!(f, "{made} steps, {lo} to {hi}"),
-            Ok(Answer::Swept { made }) => write!(f, "{made} sweeps"),
-            Ok(Answer::Quoted { lower, upper, mark }) => {
-                write!(f, "{lower} to {upper}, mark {}", u8::from(*mark))
+            Answer::Unopened(fault) => write!(f, "standing: idle, by {}", fault.notice()),
+            Answer::Refined { made, lo, hi } => write!(f, "{made} steps, {lo} to {hi}"),
+            Answer::Swept { made } => write!(f, "{made} sweeps"),
+            Answer::Quoted { lower, upper, mark } => {
+                write!(f, "{lower} to {upper}, mark {}", u8::from(mark))
             }
-            Ok(Answer::Planned { list }) => write!(f, "{}", Plan(list)),
-            Err(refusal) => write!(f, "{}", Refused(*refusal)),
-        }
-    }
-}
-
-impl fmt::Display for Refused {
-    fn fmt<W: fmt::Write>(&self, f: &mut fmt::Formatter<W>) -> fmt::Result {
-        let notice = self.0.notice();
-        match self.0 {
-            Refusal::Table(_) => write!(f, "refused: {notice}"),
-            _ => write!(f, "refused: {}", notice.number),
+            Answer::Planned => write!(f, "planned"),
+            Answer::Refused(Refusal::Table(fault)) => write!(f, "refused: {}", fault.notice()),
+            Answer::Refused(refusal) => write!(f, "refused: {}", refusal.notice().number),
         }
     }
 }

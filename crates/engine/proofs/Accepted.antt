@@ -1,5 +1,7 @@
 -- What an accepted call answers and leaves.
-use Rattle.std.proofs.Common.{◌≡◌, ℕ, ◌<◌, ◌≤◌, Bool, true, cond, ◌&&◌, ltb, leb, List, ◌++◌, length, drop, ℤ, pos, ◌-ℤ◌, Some, None, Option, sym, refl, ap, ◌∙◌, ap₂}
+use Rattle.std.proofs.Common.{◌≡◌, ℕ, ◌<◌, ◌≤◌, Bool, true, cond, ◌&&◌, ltb, leb, List, ◌++◌, length, drop, ℤ, pos, ◌-ℤ◌, Some, None, Option, Ok, Err, Result, sym, refl, ap, ◌∙◌, ap₂}
+use Rattle.std.specs.Prelude.{MatchResult}
+use Rattle.std.specs.Result.{result_err}
 use lib.Signed.{le_z}
 use Rattle.std.proofs.lemmas.Bool.{and_from, cond-true, lt-ltb, le-leb}
 use Rattle.table.specs.Table.{Table}
@@ -18,9 +20,11 @@ use Rattle.rules.specs.Runs.{changed}
 use Rattle.rules.specs.Runs as change
 use Rattle.book.specs.Desks.{desk_table, desk_book, AtStart, steps_made, bounds_at, plan_in}
 use Rattle.book.specs.declared.desk.Desk.{Desk}
+use Rattle.model.specs.Loads.{StaysAt}
 use Rattle.history.specs.Calls.{State, idle, loaded, load, standing, refines, sweeping, close, quote, plan, count_within, fresh, opened, after_call, next}
 use Rattle.history.specs.Answers.{Answer, refused, done, stands, refined, swept, quoted, planned, refine_answer, quote_answer, plan_answer, answer_loaded, answer}
 use Rattle.history.specs.declared.refusal.Refusal.TheVariants as refusal
+use Rattle.engine.specs.States.{held_state}
 use Rattle.history.proofs.Refusing.{answer_broken, answer_kept, after_broken, after_kept, next_load, load-answer}
 
 module _ (T : Table) (B : Book) where
@@ -89,10 +93,6 @@ module _ (T : Table) (B : Book) where
       ap planned (e ∙ cond-true (leb T.states (length list)) whole list t)
       ∙ sym (cond-true (leb T.states (length list)) (plan_answer T B list) (refused refusal.Room) t)
 
-  pub plan_next : (T' : Table) (A : Book) (list : List ℕ) → T' ≡ T → A ≡ B → loaded T' A ≡ next (loaded T B) (plan list)
-  unfolding next after_call
-  plan_next T' A list s a = ap₂ loaded s a
-
   -- standing
   pub standing_answer : (n k : ℕ) → n ≡ T.states → k ≡ components T → stands n k ≡ answer (loaded T B) standing
   unfolding answer answer_loaded
@@ -106,15 +106,15 @@ unbroken T d a = (walk_law T).lawful.1 a.lawful
 at_start : (T : Table) (d : Desk) → AtStart T d → loaded (desk_table d) (desk_book d) ≡ fresh T
 at_start T d a = ap₂ loaded a.same a.start
 
-opens : (T : Table) (o : Option Fault) → fault_of T ≡ o → opened T ≡ elim o [ Some e ↦ idle (refusal.Table e) | None ↦ fresh T ]
+opens : (T : Table) (o : Option Fault) → fault_of T ≡ o → opened T ≡ elim o [ Some e ↦ idle e | None ↦ fresh T ]
 unfolding opened
-opens T o h = ap (λ (o : Option Fault). elim o [ Some e ↦ idle (refusal.Table e) | None ↦ fresh T ]) h
+opens T o h = ap (λ (o : Option Fault). elim o [ Some e ↦ idle e | None ↦ fresh T ]) h
 
-pub open_loaded : (T : Table) (d : Desk) → AtStart T d → loaded (desk_table d) (desk_book d) ≡ opened T
-open_loaded T d a = at_start T d a ∙ sym (opens T None (unbroken T d a))
-
-pub open_broken : (T : Table) (e : Fault) → fault_of T ≡ Some e → idle (refusal.Table e) ≡ opened T
-open_broken T e h = sym (opens T (Some e) h)
+-- an engine with the desk after its load, and with the fault of that load, if any
+pub opened_by : (T : Table) (was d : Desk) (r : Result (Unit {0}) Fault) (o : Option Fault) → MatchResult r (λ _. AtStart T d) (StaysAt T was d)
+    → o ≡ result_err r → held_state o d ≡ opened T
+opened_by T was d (Ok x) o a h = ap (λ (o : Option Fault). held_state o d) h ∙ at_start T d a ∙ sym (opens T None (unbroken T d a))
+opened_by T was d (Err e) o a h = ap (λ (o : Option Fault). held_state o d) h ∙ sym (opens T (Some e) a.0)
 
 -- a load's answer, and what it leaves
 pub record LoadGives (T : Table) (R S : State) (a : Answer) : Type 0 where

@@ -1,7 +1,8 @@
 -- What a space holds before its first table.
-use Rattle.table.specs.Table.{Table}
-use Rattle.book.specs.Desks.{desk_table}
+use Rattle.model.specs.Room.{still_table}
+use Rattle.book.specs.Desks.{AtStart}
 use Rattle.engine.specs.declared.space.Space.{Space}
 
-abbrev pub table_in : Space → Table
-table_in s = desk_table s.desk
+-- a table of one state that stays, at its start
+abbrev pub IsFresh : Space → Type 0
+IsFresh s = AtStart still_table s.desk

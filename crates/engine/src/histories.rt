@@ -1,42 +1,25 @@
-ghost use Rattle.std.specs.Prelude.{map, replicate, IfOk};
-ghost use Rattle.history.specs.Calls as history;
 ghost use Rattle.engine.specs.States.{state_of};
-ghost use Rattle.engine.specs.Replays.{answer_of, call_of, Makes, Replayed};
+ghost use Rattle.engine.specs.Replays.{Makes, Replayed};
 
-use crate::call::{Answer, Call};
+use crate::call::{Answer, Asked, Call};
 use crate::engine::Engine;
 use crate::space::Space;
-use history::Refusal;
-use std::alloc::{AllocError, Global};
 use table::Source;
 
-// A plan into a list of zeros.
-fn planned(
-    heap: Global,
-    engine: &mut Engine,
-    room: u64,
-) -> Result<Result<Answer, Refusal>, AllocError>
-    ensures { IfOk result (λ a. Makes (history.plan (replicate room 0)) (state_of engine.old) (state_of engine.new) (answer_of a)) }
-{
-    let mut list = vec![in heap; 0u32; room as usize]?;
-    let planned = engine.plan(&mut list);
-    Ok(planned.map(|()| Answer::Planned { list }))
-}
-
-// Makes one call.
-fn make<S: Source + Drop>(
-    heap: Global,
-    engine: &mut Engine,
-    call: &Call<S>,
-) -> Result<Result<Answer, Refusal>, AllocError>
-    ensures { IfOk result (λ a. Makes (call_of S.table call.now) (state_of engine.old) (state_of engine.new) (answer_of a)) }
+// Makes one call, and answers what it answered; the choices of a plan are written into the list of the call.
+fn make<S: Source + Drop>(engine: &mut Engine, call: &mut Call<S>) -> Answer
+    ensures { Makes S.table (state_of engine.old) (state_of engine.new) call.old call.new result }
 {
     match call {
-        Call::Load(source) => Ok(engine.load(source).map(|()| Answer::Done)),
+        Call::Load(source) => engine
+            .load(source)
+            .map_or_else(Answer::Refused, |()| Answer::Done),
         Call::Standing => {
-            // programs that make this call themselves have the same line: a public function for it would be longer
             let stands = engine.standing();
-            Ok(stands.map(|(states, components)| Answer::Stands { states, components }))
+            stands.map_or_else(Answer::Unopened, |(states, components)| Answer::Stands {
+                states,
+                components,
+            })
         }
         Call::Refine {
             component,
@@ -44,31 +27,41 @@ fn make<S: Source + Drop>(
             width,
         } => {
             let refined = engine.refine(*component, *steps, *width);
-            Ok(refined.map(|(made, lo, hi)| Answer::Refined { made, lo, hi }))
+            refined.map_or_else(Answer::Refused, |(made, lo, hi)| Answer::Refined {
+                made,
+                lo,
+                hi,
+            })
         }
-        Call::Sweep { count } => Ok(engine.sweep(*count).map(|made| Answer::Swept { made })),
-        Call::Close => Ok(engine.close().map(|()| Answer::Done)),
+        Call::Sweep { count } => engine
+            .sweep(*count)
+            .map_or_else(Answer::Refused, |made| Answer::Swept { made }),
+        Call::Close => engine
+            .close()
+            .map_or_else(Answer::Refused, |()| Answer::Done),
         Call::Quote { state, width } => {
             let quoted = engine.quote(*state, *width);
-            Ok(quoted.map(|(lower, upper, mark)| Answer::Quoted { lower, upper, mark }))
+            quoted.map_or_else(Answer::Refused, |(lower, upper, mark)| Answer::Quoted {
+                lower,
+                upper,
+                mark,
+            })
         }
-        Call::Plan { room } => planned(heap, engine, *room),
+        Call::Plan { list } => engine
+            .plan(list)
+            .map_or_else(Answer::Refused, |()| Answer::Planned),
     }
 }
 
-// Opens the source and makes the calls on that one engine; the engine then, and what each call answered.
-pub fn replay<S: Source + Drop>(
-    heap: Global,
-    source: &S,
-    calls: &[Call<S>],
-) -> Result<(Engine, Vec<Result<Answer, Refusal>>), AllocError>
-    ensures { IfOk result (λ x. Replayed (S.table source.now) (map (call_of S.table) calls.now) (state_of x.0) (map answer_of x.1.items)) }
+// Opens the source and makes the calls on that one engine, each from what the one before left; each answer is written into the place
+// beside its call. Nothing is allocated, so nothing fails.
+pub fn replay<S: Source + Drop>(space: Space, source: &S, asked: &mut [Asked<S>]) -> Engine
+    ensures { Replayed S.table (S.table source.now) asked.old asked.new (state_of result) }
 {
-    let mut engine = Engine::open(Space::new(heap)?, source);
-    let mut answers = Vec::new(heap);
-    // a loop: over `.map(..).try_collect(heap)`, which was tried, nothing is known of the engine that the closure changes
-    for call in calls {
-        answers.push(make(heap, &mut engine, call)?)?;
+    let mut engine = Engine::open(space, source);
+    for one in asked.iter_mut() {
+        let answer = make(&mut engine, &mut one.call);
+        one.answer = Some(answer);
     }
-    Ok((engine, answers))
+    engine
 }

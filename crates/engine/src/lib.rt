@@ -7,7 +7,7 @@ mod engine;
 mod histories;
 mod space;
 
-pub use call::{Answer, Call};
+pub use call::{Answer, Asked, Call};
 pub use engine::Engine;
 pub use histories::replay;
 pub use space::Space;

@@ -1,6 +1,5 @@
-ghost use Rattle.std.specs.Prelude.{◌≡◌, IfOk};
-ghost use Rattle.model.specs.Room.{still_table};
-ghost use Rattle.engine.specs.Spaces.{table_in};
+ghost use Rattle.std.specs.Prelude.{IfOk};
+ghost use Rattle.engine.specs.Spaces.{IsFresh};
 
 use book::Desk;
 use std::alloc::{AllocError, Global};
@@ -12,8 +11,9 @@ pub struct Space {
 }
 
 impl Space {
+    // The space; no memory is asked for after this.
     pub fn new(heap: Global) -> Result<Space, AllocError>
-        ensures { IfOk result (λ space. table_in space ≡ still_table) }
+        ensures { IfOk result IsFresh }
     {
         Ok(Space {
             desk: Desk::new(heap)?,

@@ -1,5 +1,5 @@
 -- When a call is refused, what a refusal leaves, and what an accepted load forgets.
-use Rattle.std.proofs.Common.{◌≡◌, ℕ, Bool, true, false, cond, ◌&&◌, ltb, leb, ◌⊎◌, List, [], ◌∷◌, ◌++◌, length, Some, None, Option, sym, refl, ap, ◌∙◌, subst, inl, inr, arith}
+use Rattle.std.proofs.Common.{◌≡◌, ℕ, ◌<◌, ◌≤◌, Bool, true, false, cond, ◌&&◌, ltb, leb, ◌⊎◌, List, [], ◌∷◌, ◌++◌, length, Some, None, Option, sym, refl, ap, ◌∙◌, subst, inl, inr, arith}
 use Rattle.std.proofs.lemmas.Bool.{and_cases, and_left, and_parts, and_right, cases_Bool, cond-true, cond-false, le-ltb, leb-false, lt-leb, lt-ltb, ltb-false, ltb-true}
 use Rattle.table.specs.Table.{Table}
 use Rattle.table.specs.Walk.{fault_of}
@@ -161,8 +161,8 @@ unfolding answer answer_idle answer_loaded
 load-answer (idle d) T = refl
 load-answer (loaded T' B) T = refl
 
-needs_table_refused : (d : Fault) (c : Call) → NeedsTable c → answer_idle d c ≡ refused refusal.Idle
-unfolding answer_idle
+pub needs_table_refused : (d : Fault) (c : Call) → NeedsTable c → answer (idle d) c ≡ refused refusal.Idle
+unfolding answer answer_idle
 needs_table_refused d (load T) n = absurd n
 needs_table_refused d standing n = absurd n
 needs_table_refused d (refines k m width) n = refl
@@ -171,39 +171,43 @@ needs_table_refused d close n = refl
 needs_table_refused d (quote s width) n = refl
 needs_table_refused d (plan list) n = refl
 
+module _ (T : Table) (B : Book) where
+  pub component_refused : (k n width : ℕ) → components T ≤ k → answer (loaded T B) (refines k n width) ≡ refused refusal.Component
+  unfolding answer answer_loaded
+  component_refused k n width h =
+      cond-false (ltb k (components T)) (cond (count_within n) (refine_answer T B k n width) (refused refusal.Count)) (refused refusal.Component) (le-ltb k (components T) h)
+
+  pub state_refused : (s width : ℕ) → T.states ≤ s → answer (loaded T B) (quote s width) ≡ refused refusal.State
+  unfolding answer answer_loaded
+  state_refused s width h = cond-false (ltb s T.states) (quote_answer T B s width) (refused refusal.State) (le-ltb s T.states h)
+
+  pub steps_refused : (k n width : ℕ) → k < components T → count_within n ≡ false → answer (loaded T B) (refines k n width) ≡ refused refusal.Count
+  unfolding answer answer_loaded
+  steps_refused k n width l h =
+      cond-true (ltb k (components T)) (cond (count_within n) (refine_answer T B k n width) (refused refusal.Count)) (refused refusal.Component) (lt-ltb k (components T) l)
+      ∙ cond-false (count_within n) (refine_answer T B k n width) (refused refusal.Count) h
+
+  pub sweeps_refused : (n : ℕ) → count_within n ≡ false → answer (loaded T B) (sweeping n) ≡ refused refusal.Count
+  unfolding answer answer_loaded
+  sweeps_refused n h = cond-false (count_within n) (swept (sweeps (setting_of T) n B).made) (refused refusal.Count) h
+
+  pub room_refused : (list : List ℕ) → length list < T.states → answer (loaded T B) (plan list) ≡ refused refusal.Room
+  unfolding answer answer_loaded
+  room_refused list h = cond-false (leb T.states (length list)) (plan_answer T B list) (refused refusal.Room) (lt-leb T.states (length list) h)
+
 refused_by : (S : State) (c : Call) (n : Notice) → Reason S c n → RefusedWith S c n
-unfolding answer answer_idle answer_loaded
+unfolding answer
 refused_by S c n (broken {T} {e} h) = record { refusal = refusal.Table e; answers = load-answer S T ∙ answer_broken T e h; numbered = refl }
 refused_by (idle d) c n (needed h) = record { refusal = refusal.Idle; answers = needs_table_refused d c h; numbered = refl }
-refused_by S c n (no_component {T} {B} {k} {n = steps} {width} h) = record {
-  refusal = refusal.Component;
-  answers = cond-false (ltb k (components T)) (cond (count_within steps) (refine_answer T B k steps width) (refused refusal.Count)) (refused refusal.Component)
-      (le-ltb k (components T) h);
-  numbered = refl;
-}
-refused_by S c n (no_state {T} {B} {s} {width} h) = record {
-  refusal = refusal.State;
-  answers = cond-false (ltb s T.states) (quote_answer T B s width) (refused refusal.State) (le-ltb s T.states h);
-  numbered = refl;
-}
+refused_by S c n (no_component {T} {B} {k} {n = steps} {width} h) = record { refusal = refusal.Component; answers = component_refused T B k steps width h; numbered = refl }
+refused_by S c n (no_state {T} {B} {s} {width} h) = record { refusal = refusal.State; answers = state_refused T B s width h; numbered = refl }
 refused_by S c n (bad_steps {T} {B} {k} {n = steps} {width} l h) = record {
   refusal = refusal.Count;
-  answers =
-      cond-true (ltb k (components T)) (cond (count_within steps) (refine_answer T B k steps width) (refused refusal.Count)) (refused refusal.Component)
-      (lt-ltb k (components T) l)
-      ∙ cond-false (count_within steps) (refine_answer T B k steps width) (refused refusal.Count) (not_within steps h);
+  answers = steps_refused T B k steps width l (not_within steps h);
   numbered = refl;
 }
-refused_by S c n (bad_sweeps {T} {B} {n = count} h) = record {
-  refusal = refusal.Count;
-  answers = cond-false (count_within count) (swept (sweeps (setting_of T) count B).made) (refused refusal.Count) (not_within count h);
-  numbered = refl;
-}
-refused_by S c n (no_room {T} {B} {list} h) = record {
-  refusal = refusal.Room;
-  answers = cond-false (leb T.states (length list)) (plan_answer T B list) (refused refusal.Room) (lt-leb T.states (length list) h);
-  numbered = refl;
-}
+refused_by S c n (bad_sweeps {T} {B} {n = count} h) = record { refusal = refusal.Count; answers = sweeps_refused T B count (not_within count h); numbered = refl }
+refused_by S c n (no_room {T} {B} {list} h) = record { refusal = refusal.Room; answers = room_refused T B list h; numbered = refl }
 
 -- The number of a fault
 

@@ -6,10 +6,10 @@ mod answers;
 mod case_file;
 mod tables;
 
-use answers::{Line, stands};
-use anyhow::anyhow;
+use answers::{Line, line_of, stands};
+use anyhow::{Context, anyhow};
 use case_file::CaseFile;
-use engine::replay;
+use engine::{Space, replay};
 use quoting::transcript;
 use std::fs;
 use tables::{read_calls, read_table};
@@ -52,11 +52,13 @@ fn print_run<'a>(rt: &HostRuntime, file: &mut CaseFile<'a>) -> anyhow::Result<()
 fn print_history<'a>(rt: &HostRuntime, file: &mut CaseFile<'a>) -> anyhow::Result<()> {
     let heap = rt.alloc();
     let table = read_table(heap, file)?;
-    let calls = read_calls(heap, file)?;
-    let (engine, answers) = replay(heap, &table, &calls)?;
-    for answer in &answers {
-        println!(rt; "{}", Line(answer))?;
+    let mut asked = read_calls(heap, file)?;
+    let engine = replay(Space::new(heap)?, &table, &mut asked);
+    for one in &asked {
+        let line = line_of(one).context("a call that was not made")?;
+        println!(rt; "{line}")?;
     }
-    println!(rt; "{}", Line(&stands(&engine)))?;
+    let answer = stands(&engine);
+    println!(rt; "{}", Line { answer, list: &[] })?;
     Ok(())
 }

@@ -1,6 +1,6 @@
 use crate::case_file::CaseFile;
 use anyhow::anyhow;
-use engine::Call;
+use engine::{Asked, Call};
 use sources::{ChoiceRow, OwnedList, StateRow};
 use std::alloc::Global;
 
@@ -54,8 +54,21 @@ fn read_branch<'a>(file: &mut CaseFile<'a>) -> anyhow::Result<(u32, u32)> {
 pub(crate) fn read_calls<'a>(
     heap: Global,
     file: &mut CaseFile<'a>,
-) -> anyhow::Result<Vec<Call<OwnedList>>> {
-    read_list(heap, file, |file| read_call(heap, file))
+) -> anyhow::Result<Vec<Asked<OwnedList>>> {
+    read_list(heap, file, |file| read_asked(heap, file))
+}
+
+// A call with the place for its answer.
+fn read_asked<'a>(heap: Global, file: &mut CaseFile<'a>) -> anyhow::Result<Asked<OwnedList>> {
+    let call = read_call(heap, file)?;
+    Ok(Asked { call, answer: None })
+}
+
+// The list of a plan: how many places it has, and what each holds before.
+fn read_room<'a>(heap: Global, file: &mut CaseFile<'a>) -> anyhow::Result<Vec<u32>> {
+    let places = file.long()?;
+    let held = file.long()?;
+    Ok(vec![in heap; u32::try_from(held)?; usize::try_from(places)?]?)
 }
 
 // A call by its letter. One match over the letters: each call has its own arguments.
@@ -76,7 +89,9 @@ fn read_call<'a>(heap: Global, file: &mut CaseFile<'a>) -> anyhow::Result<Call<O
             state: file.long()?,
             width: file.long()?,
         }),
-        'P' => Ok(Call::Plan { room: file.long()? }),
+        'P' => Ok(Call::Plan {
+            list: read_room(heap, file)?,
+        }),
         _ => Err(anyhow!("a call of no known kind")),
     }
 }

@@ -2,9 +2,9 @@ use Rattle.std.proofs.Common.{Option, Result, sym, ap, ◌∙◌}
 use Rattle.std.proofs.lemmas.Result.{err_from_is_err_and}
 use Rattle.table.specs.Table.{Table}
 use Rattle.book.specs.declared.desk.Desk.{Desk}
-use Rattle.history.specs.Answers.{refused}
+use Rattle.history.specs.Answers.{Answer, refused, done}
 use Rattle.history.specs.declared.refusal.Refusal.{Refusal}
-use Rattle.engine.specs.States.{held_state, state_of, done_answer}
+use Rattle.engine.specs.States.{held_state, state_of, answer_by}
 use Rattle.engine.proofs.Accepted.{load_accepted, load_broken}
 use Rattle.engine.proofs.engine.Engine.load.Goals as goal
 
@@ -15,7 +15,7 @@ returns-in_err-load g c =
     let p = err_from_is_err_and c.from_residual.result c.from_residual.ensures.1 in
     let l = load_broken T (state_of c.args.self.now) c.in_err-load.field-0.0 e.0 in
     record {
-      answer = ap (λ (r : Result (Unit {0}) Refusal). done_answer r) p.1 ∙ ap refused p.2 ∙ l.answer;
+      answer = ap (λ (r : Result (Unit {0}) Refusal). answer_by (λ (x : Unit {0}). done) refused r) p.1 ∙ ap refused p.2 ∙ l.answer;
       holds = ap (λ (d : Desk). held_state c.args.self.now.idle d) e.1 ∙ l.holds;
     }
 

@@ -4,7 +4,7 @@ use Rattle.std.proofs.lemmas.Int.{to_z-of_z}
 use Rattle.history.specs.Calls.{State, loaded, quote}
 use Rattle.history.specs.Answers.{answer}
 use Rattle.book.specs.Desks.{desk_table, desk_book}
-use Rattle.history.specs.declared.refusal.Refusal.{Refusal}
+use Rattle.table.specs.declared.fault.Fault.{Fault}
 use Rattle.engine.specs.States.{held_state, state_of}
 use Rattle.engine.proofs.Refusals.{idle_refuses, state_refuses, stands_open, states_stand}
 use Rattle.engine.proofs.Accepted.{quote-answer}
@@ -24,7 +24,7 @@ returns c =
     let T = desk_table d in
     let B = desk_book d in
     let opened : c.args.self.now.idle ≡ None = stands_open c.in-Ok.states c.in-Ok.field-0-1 c.args.self.now.idle d c.in-Ok.ensures in
-    let here : state_of c.args.self.now ≡ loaded T B = ap (λ (o : Option Refusal). held_state o d) opened in
+    let here : state_of c.args.self.now ≡ loaded T B = ap (λ (o : Option Fault). held_state o d) opened in
     let n = states_stand c.in-Ok.states c.in-Ok.field-0-1 (state_of c.args.self.now) T B c.in-Ok.ensures here in
     let h : c.args.state < T.states = omega (arith, n, c.if-state-states.false) in
     let fl : SFits w64 c.quote-lower.result.0 = search rules in

@@ -2,7 +2,7 @@ use Rattle.std.proofs.Common.{◌≡◌, ◌<◌, None, Option, sym, ap, ◌∙�
 use Rattle.history.specs.Calls.{State, loaded, refines, next}
 use Rattle.history.specs.Answers.{answer}
 use Rattle.book.specs.Desks.{desk_table, desk_book}
-use Rattle.history.specs.declared.refusal.Refusal.{Refusal}
+use Rattle.table.specs.declared.fault.Fault.{Fault}
 use Rattle.engine.specs.States.{held_state, state_of}
 use Rattle.std.proofs.lemmas.Int.{to_z-of_z}
 use Rattle.components.specs.Nodes.{components}
@@ -34,7 +34,7 @@ returns c =
     let B = desk_book d in
     let A = desk_book c.refine-made.new.self in
     let opened : c.args.self.now.idle ≡ None = stands_open c.in-Ok.field-0-0 c.in-Ok.components c.args.self.now.idle d c.in-Ok.ensures in
-    let here : state_of c.args.self.now ≡ loaded T B = ap (λ (o : Option Refusal). held_state o d) opened in
+    let here : state_of c.args.self.now ≡ loaded T B = ap (λ (o : Option Fault). held_state o d) opened in
     let k = components_stand c.in-Ok.field-0-0 c.in-Ok.components (state_of c.args.self.now) T B c.in-Ok.ensures here in
     let h : c.args.component < components T = omega (arith, k, c.if-component-components.false) in
     let e = sym c.if-not-counts.ensures in
@@ -46,5 +46,5 @@ returns c =
     let n = refine_next T B (desk_table c.refine-made.new.self) A c.args.component c.args.steps c.args.width h e c.refine-made.ensures.table c.refine-made.ensures.book in
     record {
       answer = simp to_z-of_z a';
-      holds = ap (λ (o : Option Refusal). held_state o c.refine-made.new.self) opened ∙ n ∙ ap (λ (S : State). next S (refines c.args.component c.args.steps c.args.width)) (sym here);
+      holds = ap (λ (o : Option Fault). held_state o c.refine-made.new.self) opened ∙ n ∙ ap (λ (S : State). next S (refines c.args.component c.args.steps c.args.width)) (sym here);
     }

@@ -2,7 +2,7 @@ use Rattle.std.proofs.Common.{◌≡◌, None, Option, sym, ap, ◌∙◌}
 use Rattle.history.specs.Calls.{State, loaded, sweeping, next}
 use Rattle.history.specs.Answers.{answer}
 use Rattle.book.specs.Desks.{desk_table, desk_book}
-use Rattle.history.specs.declared.refusal.Refusal.{Refusal}
+use Rattle.table.specs.declared.fault.Fault.{Fault}
 use Rattle.engine.specs.States.{held_state, state_of}
 use Rattle.engine.proofs.Refusals.{idle_refuses, sweeps_refuses, stands_open}
 use Rattle.engine.proofs.Accepted.{sweep_answer, sweep_next}
@@ -24,10 +24,10 @@ returns c =
     let T = desk_table d in
     let B = desk_book d in
     let opened : c.args.self.now.idle ≡ None = stands_open c.in-Ok.field-0-0 c.in-Ok.field-0-1 c.args.self.now.idle d c.in-Ok.ensures in
-    let here : state_of c.args.self.now ≡ loaded T B = ap (λ (o : Option Refusal). held_state o d) opened in
+    let here : state_of c.args.self.now ≡ loaded T B = ap (λ (o : Option Fault). held_state o d) opened in
     let e = sym c.if-not-counts.ensures in
     record {
       answer = sweep_answer T B c.args.count c.sweep.result e c.sweep.ensures.made ∙ ap (λ (S : State). answer S (sweeping c.args.count)) (sym here);
-      holds = ap (λ (o : Option Refusal). held_state o c.sweep.new.self) opened ∙ sweep_next T B (desk_table c.sweep.new.self) (desk_book c.sweep.new.self) c.args.count e c.sweep.ensures.table c.sweep.ensures.book
+      holds = ap (λ (o : Option Fault). held_state o c.sweep.new.self) opened ∙ sweep_next T B (desk_table c.sweep.new.self) (desk_book c.sweep.new.self) c.args.count e c.sweep.ensures.table c.sweep.ensures.book
           ∙ ap (λ (S : State). next S (sweeping c.args.count)) (sym here);
     }
