@@ -1,9 +1,11 @@
 -- What the calls of a desk answer.
-use Rattle.std.proofs.Common.{◌≡◌, ℕ, ◌<◌, ◌≤◌, ltb, leb, List, ◌++◌, length, drop, ℤ, pos, sym, ◌∙◌}
+use Rattle.std.proofs.Common.{◌≡◌, ℕ, ◌<◌, ◌≤◌, ltb, leb, List, ◌++◌, length, take, drop, ℤ, pos, sym, ap, ◌∙◌}
+use Rattle.std.proofs.lemmas.List.{take-append-drop, length-take-le, get_or-take}
+use Rattle.std.proofs.lemmas.List.FromFn.{fill_by_all}
 use Rattle.std.proofs.lemmas.Bool.{cond-true, cond-false, lt-ltb, le-ltb, le-leb, lt-leb}
 use Rattle.table.specs.Table.{Table}
 use Rattle.components.specs.Nodes.{components}
-use Rattle.rules.specs.Choosing.{tabulate}
+use Rattle.rules.specs.Choosing.{at, tabulate}
 use Rattle.rules.specs.Setting.{setting_of}
 use Rattle.rules.specs.Book as rules
 use Rattle.rules.specs.Refine.{refine}
@@ -62,3 +64,10 @@ module _ (T : Table) (B : rules.Book) where
   unfolding plan_in
   some_plan list written h e =
       e ∙ sym (cond-true (leb T.states (length list)) (tabulate T.states (play T B) ++ drop T.states list) list (le-leb T.states (length list) h))
+
+-- a list that holds f at its first n places, and the rest of another
+pub filled : (n : ℕ) (f : ℕ → ℕ) (xs ys : List ℕ) → n ≤ length xs → ((i : ℕ) → i < n → at xs i ≡ f i) → drop n xs ≡ drop n ys
+    → xs ≡ tabulate n f ++ drop n ys
+filled n f xs ys h p e =
+    let a : take n xs ≡ tabulate n f = fill_by_all f (take n xs) n 0 (length-take-le n xs h) (λ k l. get_or-take n xs k 0 l ∙ p k l) in
+    sym (take-append-drop n xs) ∙ ap (λ (zs : List ℕ). zs ++ drop n xs) a ∙ ap (λ (zs : List ℕ). tabulate n f ++ zs) e

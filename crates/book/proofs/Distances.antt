@@ -17,7 +17,7 @@ use Rattle.rules.proofs.Distances.{inward_mono, inward_step, near as reached, di
 use Rattle.rules.proofs.Layers as layers
 use Rattle.rules.proofs.Nodes.{joined, stays_node}
 use Rattle.book.specs.Plays.{mark_at, has_mark, inside_into, first_into, Measured}
-use Rattle.book.proofs.Lists.{any_ext, first_hit}
+use Rattle.book.proofs.Searches.{any_ext, first_hit}
 
 -- the distance from s to t if it is at most k
 abbrev pub distance_to : Table → ℕ → ℕ → ℕ → Option ℕ

@@ -128,7 +128,7 @@ module _ (M : Setting) where
   room_true : (b : Book) → has_room b ≡ true → HasRoom b
   room_true b e =
       let p = split e in let q = split p.1 in let r = split q.1 in let s = split r.1 in let t = split s.1 in
-      let u = split t.1 in let v = split u.1 in let w = split v.1 in let x = split w.1 in (
+      let u = split t.1 in let v = split u.1 in let w = split v.1 in (
         leb-true 256 (vec_capacity b.vector) p.0,
         leb-true 256 (vec_capacity b.recorded) q.0,
         leb-true 256 (vec_capacity b.lo) r.0,
@@ -137,8 +137,7 @@ module _ (M : Setting) where
         leb-true 256 (vec_capacity b.y) u.0,
         leb-true 256 (vec_capacity b.plan) v.0,
         leb-true 256 (vec_capacity b.halfway) w.0,
-        leb-true 256 (vec_capacity b.marks) x.0,
-        leb-true 256 (vec_capacity b.distances) x.1,
+        leb-true 256 (vec_capacity b.marks) w.1,
       )
 
   room_from : (b : Book) → HasRoom b → has_room b ≡ true
@@ -151,23 +150,21 @@ module _ (M : Setting) where
       (join (le-leb 256 (vec_capacity b.y) h.5)
       (join (le-leb 256 (vec_capacity b.plan) h.6)
       (join (le-leb 256 (vec_capacity b.halfway) h.7)
-      (join (le-leb 256 (vec_capacity b.marks) h.8)
-      (le-leb 256 (vec_capacity b.distances) h.9)))))))))
+      (le-leb 256 (vec_capacity b.marks) h.8))))))))
 
 -- the test passes exactly where the numbers keep all that
 pub keeps_true : (T : Table) (b : Book) → keeps T b ≡ true → Kept T b
 unfolding keeps
 keeps_true T b e =
     let M = setting_of T in
-    let p = split M e in let q = split M p.1 in let r = split M q.1 in let t = split M r.1 in let u = split M t.1 in
+    let p = split M e in let q = split M p.1 in let r = split M q.1 in let t = split M r.1 in
     record {
       fit = fits_true M (book_of b) p.0;
       natural = λ s h. le_z_true (pos 0) (get_or (vec_items b.vector) s (pos 0))
           (every_at T.states (λ s. le_z (pos 0) (get_or (vec_items b.vector) s (pos 0))) q.0 s h);
       halfway = eqb-true (vec_len b.halfway) T.states r.0;
       marks = eqb-true (vec_len b.marks) T.states t.0;
-      distances = eqb-true (vec_len b.distances) T.states u.0;
-      room = room_true M b u.1;
+      room = room_true M b t.1;
     }
 
 pub keeps_from : (T : Table) (b : Book) → Kept T b → keeps T b ≡ true
@@ -178,5 +175,4 @@ keeps_from T b k =
     (join M (every_from T.states (λ s. le_z (pos 0) (get_or (vec_items b.vector) s (pos 0)))
     (λ s h. le_le_z (pos 0) (get_or (vec_items b.vector) s (pos 0)) (k.natural s h)))
     (join M (eq-eqb (vec_len b.halfway) T.states k.halfway)
-    (join M (eq-eqb (vec_len b.marks) T.states k.marks)
-    (join M (eq-eqb (vec_len b.distances) T.states k.distances) (room_from M b k.room)))))
+    (join M (eq-eqb (vec_len b.marks) T.states k.marks) (room_from M b k.room))))

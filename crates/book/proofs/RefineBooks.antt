@@ -145,7 +145,7 @@ module _ (T : Table) (L : Lawful T) (k : ℕ) (known : k < components T) (b n : 
     (lo : vec_items n.lo ≡ set (vec_items b.lo) k (next_lo (setting_of T) (vector_of (vec_items b.vector)) k (at_z (vec_items b.lo) k)))
     (hi : vec_items n.hi ≡ set (vec_items b.hi) k (next_hi (setting_of T) (vector_of (vec_items b.vector)) k (at_z (vec_items b.hi) k)))
     (x : vec_items n.x ≡ vec_items b.x) (y : vec_items n.y ≡ vec_items b.y) (plan : vec_items n.plan ≡ vec_items b.plan)
-    (halfway-size : vec_len n.halfway ≡ T.states) (marks-size : vec_len n.marks ≡ T.states) (distances-size : vec_len n.distances ≡ T.states) (room : HasRoom n) where
+    (halfway-size : vec_len n.halfway ≡ T.states) (marks-size : vec_len n.marks ≡ T.states) (room : HasRoom n) where
   next_book : book_of n ≡ step (setting_of T) k (book_of b)
   next_book =
       let v : List ℤ = vec_items b.vector in
@@ -176,7 +176,6 @@ module _ (T : Table) (L : Lawful T) (k : ℕ) (known : k < components T) (b n : 
       natural = next_natural T L k known (vec_items b.vector) K.natural half least h (vec_items n.vector) is-half is-least is-held moved;
       halfway = halfway-size;
       marks = marks-size;
-      distances = distances-size;
       room = room;
     },
   )

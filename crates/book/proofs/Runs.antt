@@ -8,7 +8,7 @@ use Rattle.components.specs.Below.{any}
 use Rattle.rules.specs.Play.{enters}
 use Rattle.book.specs.Listed.{link_of}
 use Rattle.book.specs.RunSums.{place_at, weight_at, run_sum}
-use Rattle.book.proofs.Lists.{any_ext}
+use Rattle.book.proofs.Searches.{any_ext}
 use Rattle.book.proofs.RunSums.{sum_n_cong, weighted_z_same}
 
 module _ (T : Table) (L : Lawful T) (s c : ℕ) (h : s < T.states) (k : c < T.choices s) (place : ℕ → ℕ) (run : List (ℕ × ℕ))

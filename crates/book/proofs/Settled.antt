@@ -33,7 +33,6 @@ module _ (T : Table) (v : ℕ) (b : Book) (upper lower : Option Candidate) (is-u
     plan = with_items b.plan plan;
     halfway = b.halfway;
     marks = b.marks;
-    distances = b.distances;
   }
 
   pub settled : book_of settled_book ≡ update (setting_of T) v (book_of b)
@@ -67,6 +66,5 @@ module _ (T : Table) (v : ℕ) (b : Book) (upper lower : Option Candidate) (is-u
     natural = K.natural;
     halfway = K.halfway;
     marks = K.marks;
-    distances = K.distances;
     room = K.room;
   }

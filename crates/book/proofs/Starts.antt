@@ -24,7 +24,7 @@ use Rattle.book.specs.declared.book.Book.{Book}
 use Rattle.book.specs.Books.{book_of, HasRoom, Kept}
 use Rattle.book.specs.Facts.{node_states}
 use Rattle.book.specs.Starts.{first_inside, first_exit, Sized, Started}
-use Rattle.book.proofs.Lists.{Found}
+use Rattle.book.proofs.Searches.{Found}
 
 -- the recorded choice
 module _ (T : Table) (L : Lawful T) (s : ℕ) where
@@ -106,7 +106,6 @@ pub record Holds (T : Table) (b : Book) : Type 0 where
   pub plan : vec_items b.plan ≡ tabulate (nodes T) (first_exit T)
   pub halfway : vec_len b.halfway ≡ T.states
   pub marks : vec_len b.marks ≡ T.states
-  pub distances : vec_len b.distances ≡ T.states
   pub room : HasRoom b
 
 module _ (T : Table) (L : Lawful T) (b : Book) (h : Holds T b) where
@@ -129,7 +128,6 @@ module _ (T : Table) (L : Lawful T) (b : Book) (h : Holds T b) where
           omega (arith, ints));
       halfway = h.halfway;
       marks = h.marks;
-      distances = h.distances;
       room = h.room;
     };
   }
@@ -149,6 +147,5 @@ kept_sized T b k =
       plan = let o = b.plan.ok.0 in let e = l.plan in omega arith;
       halfway = k.halfway;
       marks = k.marks;
-      distances = k.distances;
       room = k.room;
     }

@@ -21,7 +21,7 @@ book_of b = record {
 abbrev pub HasRoom : Book → Type 0
 HasRoom b =
     (256 ≤ vec_capacity b.vector) × (256 ≤ vec_capacity b.recorded) × (256 ≤ vec_capacity b.lo) × (256 ≤ vec_capacity b.hi) × (256 ≤ vec_capacity b.x)
-    × (256 ≤ vec_capacity b.y) × (256 ≤ vec_capacity b.plan) × (256 ≤ vec_capacity b.halfway) × (256 ≤ vec_capacity b.marks) × (256 ≤ vec_capacity b.distances)
+    × (256 ≤ vec_capacity b.y) × (256 ≤ vec_capacity b.plan) × (256 ≤ vec_capacity b.halfway) × (256 ≤ vec_capacity b.marks)
 
 -- what the code's numbers of a table keep: their book fits (`Fit` of the rules), and beside that no number of a vector is negative, there is working space for each state, and
 -- each list has room for the next table;
@@ -31,5 +31,4 @@ pub record Kept (T : Table) (b : Book) : Type 0 where
   pub natural : (s : ℕ) → s < T.states → pos 0 ≤ℤ slice_index_or (vec_items b.vector) s (pos 0)
   pub halfway : vec_len b.halfway ≡ T.states
   pub marks : vec_len b.marks ≡ T.states
-  pub distances : vec_len b.distances ≡ T.states
   pub room : HasRoom b

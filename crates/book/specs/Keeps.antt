@@ -53,11 +53,11 @@ has_room b =
     && (nat_le 256 (vec_capacity b.lo) && (nat_le 256 (vec_capacity b.hi)
     && (nat_le 256 (vec_capacity b.x) && (nat_le 256 (vec_capacity b.y)
     && (nat_le 256 (vec_capacity b.plan) && (nat_le 256 (vec_capacity b.halfway)
-    && (nat_le 256 (vec_capacity b.marks) && nat_le 256 (vec_capacity b.distances)))))))))
+    && nat_le 256 (vec_capacity b.marks))))))))
 
 -- `Kept`
 unfoldable pub keeps : Table → Book → Bool
 keeps T b =
     fits (setting_of T) (book_of b)
     && (every T.states (λ s. int_le (pos 0) (slice_index_or (vec_items b.vector) s (pos 0)))
-    && (vec_len b.halfway == T.states && (vec_len b.marks == T.states && (vec_len b.distances == T.states && has_room b))))
+    && (vec_len b.halfway == T.states && (vec_len b.marks == T.states && has_room b)))

@@ -30,7 +30,6 @@ pub record Sized (T : Table) (b : Book) : Type 0 where
   pub plan : vec_len b.plan ≡ nodes T
   pub halfway : vec_len b.halfway ≡ T.states
   pub marks : vec_len b.marks ≡ T.states
-  pub distances : vec_len b.distances ≡ T.states
   pub room : HasRoom b
 
 -- the book is the start, and is `Kept`

@@ -15,9 +15,7 @@ pub struct Book {
     pub(crate) x: Vec<i64>,
     pub(crate) y: Vec<i64>,
     pub(crate) plan: Vec<Exit>,
-    // working space, a place for each state: of a refine step the halfway numbers and the choices that attain the gains;
-    // of `plan` how far each state is from the state that its node leaves from
+    // working space of a refine step, a place for each state: the halfway numbers, and the choices that attain the gains
     pub(crate) halfway: Vec<i64>,
     pub(crate) marks: Vec<u32>,
-    pub(crate) distances: Vec<Option<u32>>,
 }

@@ -11,6 +11,7 @@ ghost use Rattle.rules.specs.Setting.{setting_of};
 
 use crate::layout::Layout;
 use rules::Exit;
+use table::MOST_STATES;
 
 // Whether a branch of a run leads to a state with the mark.
 fn enters(run: &[(u32, u32)], distances: &[Option<u32>], mark: u32) -> bool
@@ -143,28 +144,25 @@ fn measure(layout: &Layout, distances: &mut [Option<u32>], node: u32, target: u3
     }
 }
 
-// Writes what each state plays, node by node.
-pub(crate) fn write_nodes(
-    layout: &Layout,
-    recorded: &[u32],
-    plan: &[Exit],
-    distances: &mut [Option<u32>],
-    list: &mut [u32],
-)
+// Writes what each state plays, node by node. The distances within a node stand in an array on the stack, so that a plan only reads what it is made of.
+pub(crate) fn write_nodes(layout: &Layout, recorded: &[u32], plan: &[Exit], list: &mut [u32])
     requires recorded { (layout_table layout.now).states ≤ length recorded.now }
     requires plan { length plan.now ≡ nodes (layout_table layout.now) }
     requires fits { PlanFits (setting_of (layout_table layout.now)) (exit_at plan.now) }
-    requires distances { (layout_table layout.now).states ≤ length distances.old }
     requires room { (layout_table layout.now).states ≤ length list.old }
     ensures written { (s : ℕ) → s < (layout_table layout.now).states → at list.new s ≡ play_by (layout_table layout.now) recorded.now (exit_at plan.now (node_of (layout_table layout.now) s)) s }
     ensures rest { drop (layout_table layout.now).states list.new ≡ drop (layout_table layout.now).states list.old }
 {
+    let mut distances = [None; MOST_STATES as usize];
     for (v, exit) in plan.iter().enumerate() {
         let node = v as u32;
         if let Exit::Leave { state, .. } = *exit {
-            measure(layout, distances, node, state);
+            measure(layout, &mut distances, node, state);
         }
-        let marked = Marked { layout, distances };
+        let marked = Marked {
+            layout,
+            distances: &distances,
+        };
         marked.write_node(recorded, node, *exit, list);
     }
 }

@@ -108,20 +108,12 @@ impl Desk {
     }
 
     // Writes the choice of each state to the front of the list and leaves the rest; a list that is too short stays as it is.
-    pub fn plan(&mut self, list: &mut [u32])
-        ensures list { list.new ≡ plan_in (desk_table self.old) (desk_book self.old) list.old }
-        ensures table { desk_table self.new ≡ desk_table self.old }
-        ensures book { desk_book self.new ≡ desk_book self.old }
+    pub fn plan(&self, list: &mut [u32])
+        ensures { list.new ≡ plan_in (desk_table self.now) (desk_book self.now) list.old }
     {
         if (list.len() as u64) < self.states() {
             return;
         }
-        write_nodes(
-            &self.layout,
-            &self.book.recorded,
-            &self.book.plan,
-            &mut self.book.distances,
-            list,
-        );
+        write_nodes(&self.layout, &self.book.recorded, &self.book.plan, list);
     }
 }

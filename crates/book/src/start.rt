@@ -13,6 +13,7 @@ use crate::desk::Desk;
 use crate::layout::Layout;
 use rules::{Exit, SCALE};
 use std::alloc::{AllocError, Global};
+use table::MOST_STATES;
 
 // The widest bounds: F times the least and the largest reward. Not by a step's `scaled`: that asks for a reward within its limits, and a proof
 // of that for these two would be longer than the product.
@@ -91,11 +92,11 @@ pub(crate) fn write_start(layout: &Layout, book: &mut Book)
 }
 
 impl Book {
-    // An empty book, with room for that of every lawful table.
+    // A book with room for that of every lawful table.
     pub(crate) fn new(heap: Global) -> Result<Book, AllocError>
         ensures { IfOk result HasRoom }
     {
-        let most = 256;
+        let most = MOST_STATES as usize;
         Ok(Book {
             vector: Vec::with_capacity(heap, most)?,
             recorded: Vec::with_capacity(heap, most)?,
@@ -106,7 +107,6 @@ impl Book {
             plan: Vec::with_capacity(heap, most)?,
             halfway: Vec::with_capacity(heap, most)?,
             marks: Vec::with_capacity(heap, most)?,
-            distances: Vec::with_capacity(heap, most)?,
         })
     }
 
@@ -127,7 +127,6 @@ impl Book {
         self.plan.resize(nodes, Exit::Stay).unwrap();
         self.halfway.resize(states, 0).unwrap();
         self.marks.resize(states, 0).unwrap();
-        self.distances.resize(states, None).unwrap();
         write_start(layout, self);
     }
 }

@@ -165,7 +165,6 @@ module _ (c : Joined-rises) where
     plan = b.plan;
     halfway = with_items b.halfway c.survey-found.new.halfway;
     marks = with_items b.marks c.survey-found.new.marks;
-    distances = b.distances;
   }
 
   joined : (c.if-rises.book ≡ mid c.if-rises.book) × (length (vec_items c.if-rises.book.recorded) ≡ T.states)
@@ -216,7 +215,7 @@ module _ (c : Joined-rises) where
   module _ (n : Book)
       (moved : (s : ℕ) → s < T.states → get_or (vec_items n.vector) s (pos 0)
       ≡ cond (states_of T k s && not c.apart-held.result) (get_or c.survey-found.new.halfway s (pos 0) -ℤ c.survey-found.result.least) (get_or (vec_items b.vector) s (pos 0)))
-      (size : length (vec_items n.vector) ≡ T.states) (same : record { vector = n.vector; recorded = c.if-rises.book.recorded; lo = c.if-rises.book.lo; hi = c.if-rises.book.hi; x = c.if-rises.book.x; y = c.if-rises.book.y; plan = c.if-rises.book.plan; halfway = c.if-rises.book.halfway; marks = c.if-rises.book.marks; distances = c.if-rises.book.distances } ≡ n) (room : HasRoom n) where
+      (size : length (vec_items n.vector) ≡ T.states) (same : record { vector = n.vector; recorded = c.if-rises.book.recorded; lo = c.if-rises.book.lo; hi = c.if-rises.book.hi; x = c.if-rises.book.x; y = c.if-rises.book.y; plan = c.if-rises.book.plan; halfway = c.if-rises.book.halfway; marks = c.if-rises.book.marks } ≡ n) (room : HasRoom n) where
     next : (book_of n ≡ step M k (book_of b)) × Kept T n
     next =
         let m = joined.0 in
@@ -225,7 +224,7 @@ module _ (c : Joined-rises) where
         at-half at_mark is-least is_held is-rising moved joined.2 size joined.1
         (ap (λ (a : Book). vec_items a.lo) m ∙ lo-is) (ap (λ (a : Book). vec_items a.hi) m ∙ hi-is)
         (ap (λ (a : Book). vec_items a.x) m) (ap (λ (a : Book). vec_items a.y) m) (ap (λ (a : Book). vec_items a.plan) m)
-        (ap (λ (a : Book). vec_len a.halfway) m ∙ K.halfway) (ap (λ (a : Book). vec_len a.marks) m ∙ K.marks) (ap (λ (a : Book). vec_len a.distances) m ∙ K.distances)
+        (ap (λ (a : Book). vec_len a.halfway) m ∙ K.halfway) (ap (λ (a : Book). vec_len a.marks) m ∙ K.marks)
         (subst HasRoom (sym same) room))
 
 pub shift-requires : goal.shift-requires
@@ -278,7 +277,7 @@ returns-then-not-held c =
     let fl : SFits w64 c.survey-found.result.least = search rules in
     let least-read = to_z-of_z w64 c.survey-found.result.least fl in
     let on : not c.apart-held.result ≡ true = ap not c.if-not-held.true in
-    let n : Book = record { vector = with_items jb.vector new; recorded = jb.recorded; lo = jb.lo; hi = jb.hi; x = jb.x; y = jb.y; plan = jb.plan; halfway = jb.halfway; marks = jb.marks; distances = jb.distances } in
+    let n : Book = record { vector = with_items jb.vector new; recorded = jb.recorded; lo = jb.lo; hi = jb.hi; x = jb.x; y = jb.y; plan = jb.plan; halfway = jb.halfway; marks = jb.marks } in
     let r = next j n
     (λ s h. ap (λ (l : List ℤ). get_or l s (pos 0)) i ∙ c.shift.ensures s h
     ∙ ap (λ (z : ℤ). cond (states_of T k s) (get_or c.deref-then-not-held.result.now s (pos 0) -ℤ z) (get_or c.deref_mut-then-not-held.result.now s (pos 0))) least-read

@@ -4,7 +4,7 @@ use Rattle.table.specs.Table.{Table}
 use Rattle.components.specs.Inside.{inside}
 use Rattle.book.specs.Layouts.{layout_table}
 use Rattle.book.proofs.Layouts.{law}
-use Rattle.book.proofs.Lists.{Found}
+use Rattle.book.proofs.Searches.{Found}
 use Rattle.book.proofs.Starts.{inside_of}
 use Rattle.book.proofs.start.first_inside.Goals as goal
 

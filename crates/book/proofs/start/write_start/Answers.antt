@@ -30,7 +30,6 @@ returns c =
       plan = with_items_is B.plan c.plan_first.new.plan (search rules) ∙ c.plan_first.ensures;
       halfway = S.halfway;
       marks = S.marks;
-      distances = S.distances;
       room = (
         let a = c.fill.ensures.capacity in let r = S.room.0 in omega arith,
         S.room.1,
@@ -41,6 +40,5 @@ returns c =
         S.room.6,
         S.room.7,
         S.room.8,
-        S.room.9,
       );
     }

@@ -1,4 +1,4 @@
-use Rattle.std.proofs.Common.{ℕ, ◌<◌, ◌≤◌, List, length, sym, refl, ap, ◌∙◌, subst, arith}
+use Rattle.std.proofs.Common.{ℕ, ◌<◌, ◌≤◌, List, length, sym, ap, ◌∙◌, subst, arith}
 use Rattle.table.specs.Table.{Table}
 use Rattle.rules.specs.Choosing.{at}
 use Rattle.rules.specs.Book.{exit_at}
@@ -7,9 +7,8 @@ use Rattle.rules.specs.declared.exit.Exit.{Exit}
 use Rattle.rules.specs.Fit.{PlanFits}
 use Rattle.rules.specs.Setting.{setting_of}
 use Rattle.book.specs.Desks.{desk_table, desk_book}
-use Rattle.book.proofs.Desks.{no_plan, some_plan}
-use Rattle.book.proofs.Keeps.{keeps_true, keeps_from}
-use Rattle.book.proofs.Lists.{filled}
+use Rattle.book.proofs.Desks.{no_plan, some_plan, filled}
+use Rattle.book.proofs.Keeps.{keeps_true}
 use Rattle.book.proofs.Plays.{play_written}
 use Rattle.book.proofs.desk.Desk.plan.Goals as goal
 
@@ -17,7 +16,7 @@ pub returns-then-list-states : goal.returns-then-list-states
 returns-then-list-states c =
     let d = c.args.self.now in
     let h : length c.args.list.now < (desk_table d).states = omega (arith, c.states.ensures, c.if-list-states.true) in
-    record { list = no_plan (desk_table d) (desk_book d) c.args.list.now h; table = refl; book = refl }
+    no_plan (desk_table d) (desk_book d) c.args.list.now h
 
 pub write_nodes-requires : goal.write_nodes-requires
 write_nodes-requires c =
@@ -26,20 +25,12 @@ write_nodes-requires c =
     let K = keeps_true T d.book d.kept in
     let lr = K.fit.lengths.recorded in
     let lp = K.fit.lengths.plan in
-    let ld = K.distances in
     record {
       recorded = omega (arith, ap (λ (l : List ℕ). length l) c.deref.ensures.value, lr);
       plan = ap (λ (l : List Exit). length l) c.deref-2.ensures.value ∙ lp;
       fits = subst (λ (l : List Exit). PlanFits (setting_of T) (exit_at l)) (sym c.deref-2.ensures.value) K.fit.plan;
-      distances = omega (arith, c.deref_mut.ensures.len, ld);
       room = omega (arith, c.states.ensures, c.if-list-states.false);
     }
-
-pub invariant_of-self : goal.invariant_of-self
-invariant_of-self c =
-    let d = c.args.self.now in
-    let K = keeps_true (desk_table d) d.book d.kept in
-    record { kept = keeps_from (desk_table d) _ (record { fit = K.fit; natural = K.natural; halfway = K.halfway; marks = K.marks; distances = K.distances; room = K.room }) }
 
 pub returns : goal.returns
 returns c =
@@ -48,10 +39,6 @@ returns c =
     let B = desk_book d in
     let h : T.states ≤ length c.args.list.now = omega (arith, c.states.ensures, c.if-list-states.false) in
     let m : T.states ≤ length c.write_nodes.new.list = omega (arith, h, c.write_nodes.auto.list) in
-    record {
-      list = some_plan T B c.args.list.now c.write_nodes.new.list h (filled T.states (play T B) c.write_nodes.new.list c.args.list.now m
-          (λ s l. play_written T B s _ _ (at c.write_nodes.new.list s) (c.write_nodes.ensures.written s l) c.deref.ensures.value c.deref-2.ensures.value)
-          c.write_nodes.ensures.rest);
-      table = refl;
-      book = refl;
-    }
+    some_plan T B c.args.list.now c.write_nodes.new.list h (filled T.states (play T B) c.write_nodes.new.list c.args.list.now m
+    (λ s l. play_written T B s _ _ (at c.write_nodes.new.list s) (c.write_nodes.ensures.written s l) c.deref.ensures.value c.deref-2.ensures.value)
+    c.write_nodes.ensures.rest)

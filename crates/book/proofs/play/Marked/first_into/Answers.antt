@@ -4,7 +4,7 @@ use Rattle.table.specs.Table.{Table}
 use Rattle.components.specs.Below.{first}
 use Rattle.book.specs.Layouts.{layout_table}
 use Rattle.book.specs.Plays.{inside_into}
-use Rattle.book.proofs.Lists.{Found, first_of}
+use Rattle.book.proofs.Searches.{Found, first_of}
 use Rattle.book.proofs.play.Marked.first_into.Goals as goal
 
 pub returns : goal.returns

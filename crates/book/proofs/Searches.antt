@@ -1,12 +1,9 @@
--- Tests on the numbers below a count, and lists that are written place by place.
-use Rattle.std.proofs.Common.{◌≡◌, ℕ, zero, suc, ◌<◌, ◌≤◌, Bool, true, false, List, ◌++◌, Some, None, Option, length, take, drop, sym, refl, ap, ◌∙◌, ⊎_elim, arith}
+-- Tests on the numbers below a count, and what a search among them finds.
+use Rattle.std.proofs.Common.{◌≡◌, ℕ, zero, suc, ◌<◌, ◌≤◌, Bool, true, false, Some, None, Option, sym, refl, ⊎_elim, arith}
 use Rattle.std.specs.Option.{MatchOption, unwrap_or}
-use Rattle.std.proofs.lemmas.List.FromFn.{fill_by_all}
-use Rattle.std.proofs.lemmas.List.{take-append-drop, length-take-le, get_or-take}
 use Rattle.std.proofs.lemmas.Bool.{cases_lt, both_ways, cond_both}
 use Rattle.components.specs.Below.{any, first}
 use Rattle.components.proofs.Labels.{first_is}
-use Rattle.rules.specs.Choosing.{at, tabulate}
 use Rattle.rules.proofs.Layers.{first_most}
 
 pub any_ext : (n : ℕ) (p q : ℕ → Bool) → ((i : ℕ) → i < n → p i ≡ q i) → any n p ≡ any n q
@@ -41,10 +38,3 @@ Found n p r =
 pub first_of : (n : ℕ) (p : ℕ → Bool) (r : Option ℕ) → Found n p r → unwrap_or r n ≡ first n p
 first_of n p None m = sym (first_past n p (λ d l. m d (omega arith) l))
 first_of n p (Some i) m = sym (first_is n p i m.1 m.2 (λ d l. m.3 d (omega arith) l))
-
--- a list that holds f at its first n places, and the rest of another
-pub filled : (n : ℕ) (f : ℕ → ℕ) (xs ys : List ℕ) → n ≤ length xs → ((i : ℕ) → i < n → at xs i ≡ f i) → drop n xs ≡ drop n ys
-    → xs ≡ tabulate n f ++ drop n ys
-filled n f xs ys h p e =
-    let a : take n xs ≡ tabulate n f = fill_by_all f (take n xs) n 0 (length-take-le n xs h) (λ k l. get_or-take n xs k 0 l ∙ p k l) in
-    sym (take-append-drop n xs) ∙ ap (λ (zs : List ℕ). zs ++ drop n xs) a ∙ ap (λ (zs : List ℕ). tabulate n f ++ zs) e
