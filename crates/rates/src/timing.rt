@@ -128,7 +128,7 @@ fn time_quotes(
 }
 
 // A checksum of the plan.
-fn plan_sum(engine: &mut Engine) -> anyhow::Result<i64> {
+fn plan_sum(engine: &Engine) -> anyhow::Result<i64> {
     // an array: the caller's own list, as long as a table may have states
     let mut list = [0u32; 256];
     engine.plan(&mut list).map_err(refused)?;
@@ -155,7 +155,8 @@ pub(crate) fn measure_loads<S: Source>(
     source: &S,
 ) -> anyhow::Result<Engine> {
     let mut engine = Engine::open(Space::new(rt.alloc())?, source);
-    let (states, components) = engine.standing().map_err(refused)?;
+    let standing = engine.standing().map_err(Refusal::Table);
+    let (states, components) = standing.map_err(refused)?;
     println!(rt; "{name} states {states} components {components}")?;
     let loads = time_loads(rt, &mut engine, rounds, source)?;
     print_work(rt, name, "loads", loads)?;
@@ -176,7 +177,7 @@ pub(crate) fn measure<S: Source>(
     print_work(rt, name, "sweeps", sweeps)?;
     let (quotes, values) = time_quotes(rt, &mut engine, source.states(), 1000)?;
     print_work(rt, name, "quotes", quotes)?;
-    let plan = plan_sum(&mut engine)?;
+    let plan = plan_sum(&engine)?;
     println!(rt; "{name} checksums {bounds} {values} {plan}")?;
     Ok(())
 }
