@@ -1,18 +1,29 @@
 -- The nodes are the components and the lone states.
-use Rattle.std.proofs.Common.{◌≡◌, ℕ, ◌<◌, true, false, ◌↔◌, Some, None, Option, sym, refl, ⊎_elim, arith, MatchOption}
-use Rattle.std.proofs.lemmas.Bool.{cases_Bool, both_ways, eq-eqb, cond_both}
+use Rattle.std.proofs.Common.{◌≡◌, ℕ, ◌<◌, ◌≤◌, true, false, ◌&&◌, ◌↔◌, Some, None, Option, sym, refl, ⊎_elim, arith, MatchOption}
+use Rattle.std.proofs.lemmas.Bool.{cases_Bool, both_ways, and_parts, eq-eqb, cond_both}
 use Rattle.table.specs.Table.{Table}
 use Rattle.table.specs.Limits.{Lawful}
 use Rattle.components.specs.EndComponent.{States, Choices, Reaches, EndComponent}
 use Rattle.components.specs.Inside.{inside}
-use Rattle.components.specs.Nodes.{in_component, is_lowest, nodes, node_of, components, component_of, states_of_node, states_of, lowest_of, component_at}
+use Rattle.components.specs.Nodes.{in_component, is_lowest, heads, nodes, node_of, components, component_of, states_of_node, states_of, lowest_of, component_at}
 use Rattle.components.specs.Law.{SameStates, Lowest, Lone, Node, component, lone, NodeLaw}
-use Rattle.components.proofs.Below.{first_le, first_at}
+use Rattle.components.proofs.Below.{first_le, first_at, count_le, count_most}
 use Rattle.components.proofs.Reach.{reach_sound, reach_all}
 use Rattle.components.proofs.Reversible.{moves, Acts, acts_more}
 use Rattle.components.proofs.Classes.{class_maximal, only_classes, end_acts, end_within, of_states}
 use Rattle.components.proofs.Numbering.{acts_of, of_acts, G, lowest_same, same_reach, in_same, num_same, num_keep, num_bound, num_lowest, num_rising, node_numbers}
 use Rattle.components.proofs.Components.{own, component_bound, component_reached, component_law}
+
+-- each node has its lowest state, and each component is a node
+most : (T : Table) → nodes T ≤ T.states
+unfolding nodes
+most T = count_most T.states (is_lowest T)
+
+fewer : (T : Table) → components T ≤ nodes T
+unfolding components nodes heads
+fewer T =
+    count_le T.states (λ s. is_lowest T s && in_component T s) (is_lowest T)
+    (λ s h e. (and_parts (is_lowest T s) (in_component T s) e).0)
 
 module _ (T : Table) (law : Lawful T) where
   pub own_node : (s : ℕ) → states_of_node T (node_of T s) s ≡ true
@@ -55,7 +66,7 @@ module _ (T : Table) (law : Lawful T) where
       (cases_Bool (in_component T s))
 
   -- without inside choices a state reaches itself alone
-  alone : (s t : ℕ) → in_component T s ≡ false → Reaches T (inside T) s t → t ≡ s
+  pub alone : (s t : ℕ) → in_component T s ≡ false → Reaches T (inside T) s t → t ≡ s
   alone s t f r =
       ⊎_elim
       (λ (q : s ≡ t). sym q)
@@ -141,4 +152,6 @@ module _ (T : Table) (law : Lawful T) where
     lowest = lowest_state;
     rising = λ v w s t l _ a b. num_rising T law (is_lowest T) (states_of_node T) (node_numbers T law) v w s t l a b;
     which = which_at;
+    most = most T;
+    fewer = fewer T;
   }

@@ -74,6 +74,9 @@ pub record NodeLaw (T : Table) : Type 0 where
       → MatchOption (component_at T v)
       ((s : ℕ) → s < T.states → node_of T s ≡ v → Lone T s)
       (λ i. (i < components T) × SameStates T (states_of_node T v) (states_of T i))
+  -- there are no more nodes than states, and no more components than nodes
+  pub most : nodes T ≤ T.states
+  pub fewer : components T ≤ nodes T
 
 -- every node has a depth, at most the number of states
 pub record DepthLaw (T : Table) : Type 0 where
@@ -89,9 +92,3 @@ pub record ComponentsLaw (T : Table) : Type 0 where
 
 abbrev pub EveryLawfulTable : Type 0
 EveryLawfulTable = (T : Table) → Lawful T → ComponentsLaw T
-
--- a table with n states has at most m nodes, no more components than nodes, and no node deeper than m
-abbrev pub NodesWithin : ℕ → ℕ → Type 0
-NodesWithin n m =
-    (T : Table) → Lawful T → T.states ≡ n
-    → (nodes T ≤ m) × (components T ≤ nodes T) × ((v : ℕ) → v < nodes T → depth T v ≤ m)

@@ -1,6 +1,6 @@
--- Worked tables, whose inside choices, nodes, components and depths follow by computation.
+-- Tables written as lists, and what a table is taken apart into, as lists: for worked tables, whose parts follow by computation.
 -- Branches are written (successor, weight).
-use Rattle.std.specs.Prelude.{◌≡◌, ℕ, Bool, true, false, List, [], ◌∷◌, map, length, get_or, ℤ, pos, Some, None, Option, slice_index_or}
+use Rattle.std.specs.Prelude.{ℕ, Bool, List, [], map, length, get_or, ℤ, pos, Option, slice_index_or}
 use Rattle.std.specs.List.{range_with_len}
 use Rattle.table.specs.Table.{Table}
 use Rattle.components.specs.Inside.{inside}
@@ -40,40 +40,3 @@ parts_of T = record {
   component = map (component_at T) (range_with_len 0 (nodes T));
   depth = map (depth T) (range_with_len 0 (nodes T));
 }
-
--- one state that loops
-abbrev pub loop_state : Table
-loop_state = plain 1 ((((0, 1) ∷ []) ∷ []) ∷ [])
-
--- a cycle of two states
-abbrev pub cycle : Table
-cycle = plain 2 ((((1, 2) ∷ []) ∷ []) ∷ (((0, 2) ∷ []) ∷ []) ∷ [])
-
--- a state with a branch to itself that is lone all the same, since the other branch does not lead back
-abbrev pub lonely : Table
-lonely = plain 2 ((((0, 1) ∷ (1, 1) ∷ []) ∷ []) ∷ (((1, 2) ∷ []) ∷ []) ∷ [])
-
--- a cycle of two states, the second with a choice that leaves it for a state that loops
-abbrev pub left_cycle : Table
-left_cycle =
-    plain 2 ((((1, 2) ∷ []) ∷ []) ∷ (((0, 2) ∷ []) ∷ ((0, 1) ∷ (2, 1) ∷ []) ∷ []) ∷ (((2, 2) ∷ []) ∷ []) ∷ [])
-
-abbrev pub worked_tables : List Table
-worked_tables = loop_state ∷ cycle ∷ lonely ∷ left_cycle ∷ []
-
-abbrev pub worked_parts : List WorkedParts
-worked_parts =
-    record { inside = (true ∷ []) ∷ []; node = 0 ∷ []; component = Some 0 ∷ []; depth = 0 ∷ [] }
-    ∷ record { inside = (true ∷ []) ∷ (true ∷ []) ∷ []; node = 0 ∷ 0 ∷ []; component = Some 0 ∷ []; depth = 0 ∷ [] }
-    ∷ record { inside = (false ∷ []) ∷ (true ∷ []) ∷ []; node = 0 ∷ 1 ∷ []; component = None ∷ Some 0 ∷ []; depth = 1 ∷ 0 ∷ [] }
-    ∷ record {
-      inside = (true ∷ []) ∷ (true ∷ false ∷ []) ∷ (true ∷ []) ∷ [];
-      node = 0 ∷ 0 ∷ 1 ∷ [];
-      component = Some 0 ∷ Some 1 ∷ [];
-      depth = 1 ∷ 0 ∷ [];
-    }
-    ∷ []
-
--- the parts of each worked table
-abbrev pub WorkedTables : Type 0
-WorkedTables = map parts_of worked_tables ≡ worked_parts
