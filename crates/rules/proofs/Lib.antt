@@ -22,8 +22,12 @@ pub mod Plays
 pub mod PlanDepth
 pub mod Lower
 pub mod Promises
+pub mod Same
 pub mod Ends
+pub mod StartMeaning
+pub mod StepMeaning
+pub mod UpdateMeaning
+pub mod PlayMeaning
 pub mod Meaning
-pub mod Models
 pub mod Loops
 pub mod Halfway

@@ -13,7 +13,7 @@ use Rattle.components.proofs.Reach.{within, once}
 use Rattle.components.proofs.Reversible.{inside_exists}
 use Rattle.components.proofs.Numbering.{acts_of, of_acts, in_same, num_same, node_numbers}
 use Rattle.components.proofs.Components.{own, component_bound, component_law}
-use Rattle.components.proofs.Nodes.{own_node, node_bound, node_reached, node_law}
+use Rattle.components.proofs.Nodes.{own_node, node_bound, node_reached, alone, node_law}
 use Rattle.components.proofs.Depth.{depth_law}
 
 some_number : Option ℕ → ℕ
@@ -53,6 +53,10 @@ module _ (T : Table) (law : Lawful T) where
       (λ (i : inside T s c ≡ true). absurd (both_ways (in_component T s) e (inside_component s c i)))
       (λ (i : inside T s c ≡ false). i)
       (cases_Bool (inside T s c))
+
+  -- the node of a lone state has no other
+  pub lone_node : (s t : ℕ) → s < T.states → t < T.states → node_of T t ≡ node_of T s → in_component T s ≡ false → t ≡ s
+  lone_node s t h k q e = alone T law s t e (joined s t h k (sym q))
 
   -- states of one node are in a component together, the same one
   pub in_together : (s t : ℕ) → s < T.states → t < T.states → node_of T s ≡ node_of T t → in_component T t ≡ true → in_component T s ≡ true

@@ -23,8 +23,12 @@ pub record Exits (M : Setting) (y : ℕ → ℤ) (stamp : ℕ → ℕ) (s c : �
   pub ahead : (b : ℕ) × (b < M.table.branches s c) × Ahead y stamp (node_of M.table (successor M.table s c b)) (node_of M.table s)
 
 -- what a state plays by an exit
-abbrev play_by : Table → Book → ℕ → Exit → ℕ
+abbrev pub play_by : Table → Book → ℕ → Exit → ℕ
 play_by T B s e = elim e [ Stay ↦ at B.recorded s | Leave t c ↦ cond (eqb s t) c (toward T t s) ]
+
+pub play_by_exit : (T : Table) (B : Book) (s : ℕ) (e : Exit) → exit_at B.plan (node_of T s) ≡ e → play T B s ≡ play_by T B s e
+unfolding play
+play_by_exit T B s e q = ap (play_by T B s) q
 
 module _ (M : Setting) (L : Lawful M.table) (B : Book) (S : Sound M B) where
   -- how the node of s goes on
@@ -33,10 +37,6 @@ module _ (M : Setting) (L : Lawful M.table) (B : Book) (S : Sound M B) where
 
   abbrev stamps : ℕ → ℕ
   stamps = S.progress.0
-
-  play_by_exit : (s : ℕ) (e : Exit) → exit s ≡ e → play M.table B s ≡ play_by M.table B s e
-  unfolding play
-  play_by_exit s e q = ap (play_by M.table B s) q
 
   -- the three ways to play
   pub data Way (s : ℕ) : Type 0 where
@@ -67,15 +67,15 @@ module _ (M : Setting) (L : Lawful M.table) (B : Book) (S : Sound M B) where
   way s h = by (exit s) refl
     where
       by : (e : Exit) → exit s ≡ e → Way s
-      by Stay q = staying q (play_by_exit s Stay q) (worth_at s h Stay q s h refl).0
+      by Stay q = staying q (play_by_exit M.table B s Stay q) (worth_at s h Stay q s h refl).0
       by (Leave t c) q =
           let w = worth_at s h (Leave t c) q in
           ⊎_elim
           (λ (e : s ≡ t).
-          leaving t c q (rw (play_by_exit s (Leave t c) q ∙ cond-true (eqb s t) c (toward M.table t s) (eq-eqb s t e))
+          leaving t c q (rw (play_by_exit M.table B s (Leave t c) q ∙ cond-true (eqb s t) c (toward M.table t s) (eq-eqb s t e))
           (exits s t c e w (leads_at s h (Leave t c) q))))
           (λ (n : s ≡ t → ⊥).
-          nearing t c q (rw (play_by_exit s (Leave t c) q ∙ cond-false (eqb s t) c (toward M.table t s) (ne_eqb s t n))
+          nearing t c q (rw (play_by_exit M.table B s (Leave t c) q ∙ cond-false (eqb s t) c (toward M.table t s) (ne_eqb s t n))
           (toward_nearer M.table L t s w.leaving.choice.state h (sym w.leaving.node) n)))
           (cases_eq s t)
 

@@ -27,10 +27,10 @@ use Rattle.rules.proofs.Sides.{lower_side, upper_side, over_bottom, under_top, b
 
 module _ (M : Setting) (L : Lawful M.table) where
   -- a list of one number
-  all : (n : ℕ) (z : ℤ) (i : ℕ) → i < n → at_z (replicate n z) i ≡ z
+  pub all : (n : ℕ) (z : ℤ) (i : ℕ) → i < n → at_z (replicate n z) i ≡ z
   all n z i l = get_or-replicate n i z (pos 0) l
 
-  none : (s : ℕ) → s < M.table.states → at (replicate M.table.states 0) s ≡ 0
+  pub none : (s : ℕ) → s < M.table.states → at (replicate M.table.states 0) s ≡ 0
   none s h = get_or-replicate M.table.states s 0 0 h
 
   bottom_within : (n : ℕ) → Within M n (at_z (replicate n (bottom M)))
@@ -40,10 +40,10 @@ module _ (M : Setting) (L : Lawful M.table) where
   top_within n i l = rw (all n (top M) i l) (let a = bottom_top M L in (a, omega (arith, lin)))
 
   -- the recorded choices
-  abbrev firsts : ℕ → ℕ
+  abbrev pub firsts : ℕ → ℕ
   firsts s = cond (in_component M.table s) (first (M.table.choices s) (inside M.table s)) 0
 
-  first_is_inside : (s : ℕ) → in_component M.table s ≡ true
+  pub first_is_inside : (s : ℕ) → in_component M.table s ≡ true
       → (first (M.table.choices s) (inside M.table s) < M.table.choices s) × (inside M.table s (first (M.table.choices s) (inside M.table s)) ≡ true)
   first_is_inside s e =
       let x = inside_choice M.table L s e in
@@ -51,7 +51,7 @@ module _ (M : Setting) (L : Lawful M.table) where
       let m = x.1 in
       (omega arith, first_at (M.table.choices s) (inside M.table s) x.0 x.1 x.2)
 
-  recorded_at : (s : ℕ) → s < M.table.states → at (start M).recorded s ≡ firsts s
+  pub recorded_at : (s : ℕ) → s < M.table.states → at (start M).recorded s ≡ firsts s
   unfolding start
   recorded_at s h = tabulate_at M.table.states firsts s 0 h
 
@@ -66,10 +66,10 @@ module _ (M : Setting) (L : Lawful M.table) where
       rw (recorded_at s h ∙ cond-true (in_component M.table s) (first (M.table.choices s) (inside M.table s)) 0 e) (first_is_inside s e).1
 
   -- the plan: a component stays, a lone state plays its choice 0
-  abbrev exits : Option ℕ → ℕ → Exit
+  abbrev pub exits : Option ℕ → ℕ → Exit
   exits o v = elim o [ Some i ↦ Stay | None ↦ Leave (lowest_of M.table v) 0 ]
 
-  plan_at : (v : ℕ) → v < nodes M.table → exit_at (start M).plan v ≡ exits (component_at M.table v) v
+  pub plan_at : (v : ℕ) → v < nodes M.table → exit_at (start M).plan v ≡ exits (component_at M.table v) v
   unfolding start
   plan_at v l = tabulate_at (nodes M.table) (λ w. exits (component_at M.table w) w) v Stay l
 

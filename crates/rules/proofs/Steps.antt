@@ -92,6 +92,18 @@ module _ (M : Setting) (k : ℕ) (B : Book) where
       vector_at s h ∙ cond-false (states_of M.table k s && not (held M t k)) (shifted M t k s) (t s)
       (and_right (states_of M.table k s) (not (held M t k)) (not_from_true (held M t k) f))
 
+  pub step_lengths : Lengths M B → Lengths M (step M k B)
+  unfolding step
+  step_lengths S = record {
+    vector = tabulate_length M.table.states (next_vector M (at B.vector) k);
+    recorded = tabulate_length M.table.states (next_recorded M (at B.vector) k (at_z B.lo k) (at B.recorded));
+    lo = length-set B.lo k (next_lo M (at B.vector) k (at_z B.lo k)) ∙ S.lo;
+    hi = length-set B.hi k (next_hi M (at B.vector) k (at_z B.hi k)) ∙ S.hi;
+    x = S.x;
+    y = S.y;
+    plan = S.plan;
+  }
+
 module _ (M : Setting) (L : Lawful M.table) (k : ℕ) (known : k < components M.table) (B : Book) (S : Fit M B) where
   pub in_hi : k < length B.hi
   in_hi = let q = S.lengths.hi in let l = known in omega arith
@@ -196,22 +208,10 @@ module _ (M : Setting) (L : Lawful M.table) (k : ℕ) (known : k < components M.
         (cases_eq i k),
   )
 
-  pub step_lengths : Lengths M (step M k B)
-  unfolding step
-  step_lengths = record {
-    vector = tabulate_length M.table.states (next_vector M (at B.vector) k);
-    recorded = tabulate_length M.table.states (next_recorded M (at B.vector) k (at_z B.lo k) (at B.recorded));
-    lo = length-set B.lo k (next_lo M (at B.vector) k (at_z B.lo k)) ∙ S.lengths.lo;
-    hi = length-set B.hi k (next_hi M (at B.vector) k (at_z B.hi k)) ∙ S.lengths.hi;
-    x = S.lengths.x;
-    y = S.lengths.y;
-    plan = S.lengths.plan;
-  }
-
   pub step_fit : Fit M (step M k B)
   unfolding step
   step_fit = record {
-    lengths = step_lengths;
+    lengths = step_lengths M k B S.lengths;
     vector = step_vector;
     recorded = step_recorded;
     lo = step_lo;

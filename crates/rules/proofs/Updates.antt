@@ -118,19 +118,19 @@ module _ (M : Setting) (v : ℕ) (B : Book) where
   unfolding update
   plan_other w n = get_or-set_other B.plan v w new_exit Stay n
 
-module _ (M : Setting) (L : Lawful M.table) (v : ℕ) (B : Book) (S : Fit M B) where
-  pub update_lengths : Lengths M (update M v B)
+  pub update_lengths : Lengths M B → Lengths M (update M v B)
   unfolding update
-  update_lengths = record {
-    vector = S.lengths.vector;
-    recorded = S.lengths.recorded;
-    lo = S.lengths.lo;
-    hi = S.lengths.hi;
-    x = length-set B.x v (new_x M v B) ∙ S.lengths.x;
-    y = length-set B.y v (new_y M v B) ∙ S.lengths.y;
-    plan = length-set B.plan v (new_exit M v B) ∙ S.lengths.plan;
+  update_lengths S = record {
+    vector = S.vector;
+    recorded = S.recorded;
+    lo = S.lo;
+    hi = S.hi;
+    x = length-set B.x v new_x ∙ S.x;
+    y = length-set B.y v new_y ∙ S.y;
+    plan = length-set B.plan v new_exit ∙ S.plan;
   }
 
+module _ (M : Setting) (L : Lawful M.table) (v : ℕ) (B : Book) (S : Fit M B) where
   pub update_x : Within M (nodes M.table) (at_z (update M v B).x)
   update_x w l =
       ⊎_elim
@@ -165,7 +165,7 @@ module _ (M : Setting) (L : Lawful M.table) (v : ℕ) (B : Book) (S : Fit M B) w
   pub update_fit : Fit M (update M v B)
   unfolding update
   update_fit = record {
-    lengths = update_lengths;
+    lengths = update_lengths M v B S.lengths;
     vector = S.vector;
     recorded = S.recorded;
     lo = S.lo;

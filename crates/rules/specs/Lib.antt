@@ -11,4 +11,3 @@ pub mod Sound
 pub mod Runs
 pub mod Promises
 pub mod Meaning
-pub mod Worked
