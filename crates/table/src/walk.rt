@@ -6,9 +6,7 @@ ghost use Rattle.table.specs.Walk.{branch_walk, head_walk, state_walk, first_bro
 ghost use Rattle.table.specs.Law.{WalkLaw, verdict};
 
 use crate::fault::Fault;
-use crate::limits::{
-    MOST_BRANCHES, MOST_CHOICES, MOST_DENOMINATOR, MOST_REWARD, MOST_STATES,
-};
+use crate::limits::{MOST_BRANCHES, MOST_CHOICES, MOST_DENOMINATOR, MOST_REWARD, MOST_STATES};
 use crate::source::Source;
 
 // The first broken limit of the source's table, or none: then the table is lawful.
