@@ -18,10 +18,6 @@ rows w states = record {
   branch = λ s c b. slice_index_or (get_or {A = ℤ × List (ℕ × ℕ)} (slice_index_or states s []) c (pos 0, [])).1 b (0, 0);
 }
 
--- one with rewards 0: for each state its choices, for each choice its branches
-abbrev pub plain : ℕ → List (List (List (ℕ × ℕ))) → Table
-plain w states = rows w (map (map (λ branches. (pos 0, branches))) states)
-
 -- what a table is taken apart into
 pub record WorkedParts : Type 0 where
   -- for each state, whether each choice is inside

@@ -7,13 +7,9 @@ use Rattle.rules.specs.Setting.{Setting}
 use Rattle.rules.specs.Book.{Book}
 use Rattle.rules.specs.Refine.{refine}
 use Rattle.rules.specs.Runs.{Change, refines, sweeping, closing, changed}
-use Rattle.rules.specs.Fit.{EveryFit}
 use Rattle.rules.specs.Sound.{Sound}
 use Rattle.rules.specs.Promises.{EverySound}
-use Rattle.rules.proofs.Start.{start_fit, start_sound}
-use Rattle.rules.proofs.Steps.{step_fit}
-use Rattle.rules.proofs.Updates.{update_fit}
-use Rattle.rules.proofs.Calls.{refine_fit, sweep_fit, sweeps_fit}
+use Rattle.rules.proofs.Start.{start_sound}
 use Rattle.rules.proofs.Refines.{Keeps, keeps_self, refine_keeps}
 use Rattle.rules.proofs.Sweeps.{sweeps_keep}
 use Rattle.rules.proofs.Upper.{sound_upper}
@@ -49,14 +45,4 @@ every_sound M L = record {
   lower = sound_lower M L;
   refining = λ k n width known B S. (refine_keeps M L k known n width B S).tighter;
   sweeping = λ n B S. (sweeps_keep M L n B S).tighter;
-}
-
-pub every_fit : EveryFit
-every_fit M L = record {
-  starts = start_fit M L;
-  steps = λ k known B S. step_fit M L k known B S;
-  updates = λ v B S. update_fit M L v B S;
-  refines = λ k n width known B S. refine_fit M L k known n width B S;
-  sweep = sweep_fit M L;
-  sweeps = sweeps_fit M L;
 }
