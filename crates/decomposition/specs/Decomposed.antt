@@ -1,5 +1,5 @@
 -- What a table is taken apart into.
-use Rattle.std.specs.Prelude.{◌≡◌, ℕ, ◌*◌, ◌<◌, Bool, ◌&&◌, length, None, vec_items, vec_len, Option, nat_lt, slice_index, slice_index_or}
+use Rattle.std.specs.Prelude.{◌≡◌, ℕ, ◌*◌, ◌<◌, Bool, false, ◌&&◌, length, None, vec_items, vec_len, Option, nat_lt, slice_index, slice_index_or}
 use Rattle.table.specs.Table.{Table}
 use Rattle.table.specs.Limits.{Lawful}
 use Rattle.components.specs.EndComponent.{Choice}
@@ -24,6 +24,7 @@ pub record Decomposed (T : Table) (p : Parts) : Type 0 where
   pub lawful : Lawful T
   pub inside_size : length (vec_items p.inside) ≡ 16 * T.states
   pub inside_is : (s c : ℕ) → Choice T s c → inside_in p s c ≡ inside T s c
+  pub none_outside : (s c : ℕ) → ¬ Choice T s c → inside_in p s c ≡ false
   pub node_size : length (vec_items p.node) ≡ T.states
   pub node_is : (s : ℕ) → s < T.states → node_in p s ≡ node_of T s
   pub nodes_are : vec_len p.component ≡ nodes T

@@ -4,3 +4,4 @@ pub mod Marking
 pub mod Dropping
 pub mod Numbered
 pub mod Decomposed
+pub mod Spaces

@@ -1,42 +1,40 @@
-ghost use Rattle.std.specs.Prelude.{◌≡◌, ◌+◌, ◌*◌, ◌<◌, ◌≤◌, true, false, length, take, replicate, IfOk, slice_set, vec_capacity};
-ghost use Rattle.decomposition.specs.Flags.{flag_at};
+ghost use Rattle.std.specs.Prelude.{◌≡◌, ◌+◌, ◌*◌, ◌<◌, ◌≤◌, true, false, length, replicate, IfOk, slice_set, vec_capacity};
+ghost use Rattle.model.specs.Held.{table_of};
+ghost use Rattle.model.specs.declared.sizes.TheConstants.{CHOICE_PLACES};
+ghost use Rattle.decomposition.specs.Flags.{flag_at, OwnFlags};
 
+use model::{CHOICE_PLACES, Model};
 use std::alloc::{AllocError, Global};
+use table::{MOST_CHOICES, MOST_STATES, Source};
 
-// How many flags a set has: 16 to each of 256 states. This is its size, and no limit of a table, which `table` checks.
-pub(crate) const ALL_FLAGS: usize = 4096;
-
-// How many flags each state has: a size too.
-pub(crate) const MOST_CHOICES: u32 = 16;
-
-// The place of a choice among the flags.
+// The place of a choice among the flags: each state has room for as many choices as a state may have.
 pub(crate) fn place(state: u32, choice: u32) -> usize
-    ensures { result ≡ 16 * state + choice }
+    ensures { result ≡ MOST_CHOICES * state + choice }
 {
     MOST_CHOICES as usize * state as usize + choice as usize
 }
 
-// A set of choices, by a flag for each: 16 to a state, of 256 states. They lie flat, and the first of them go on as they are into the parts and
-// an engine's layout: flat data is a rule of this project.
+// A set of choices, by a flag at each place. They lie flat, as those in the parts and in an engine's layout do: flat data is a rule
+// of this project.
 #[derive(Drop)]
 pub(crate) struct Kept {
     pub(crate) flags: Vec<bool>,
-    ghost size: { length flags.items ≡ 4096 },
+    ghost size: { length flags.items ≡ CHOICE_PLACES },
 }
 
 impl Kept {
     // All choices.
     pub(crate) fn all(heap: Global) -> Result<Kept, AllocError>
-        ensures { IfOk result (λ kept. kept.flags.items ≡ replicate 4096 true) }
+        ensures { IfOk result (λ kept. kept.flags.items ≡ replicate CHOICE_PLACES true) }
     {
         Ok(Kept {
-            flags: vec![in heap; true; ALL_FLAGS]?,
+            flags: vec![in heap; true; CHOICE_PLACES]?,
         })
     }
 
     // Puts all choices into the set.
     pub(crate) fn fill(&mut self)
-        ensures { self.new.flags.items ≡ replicate 4096 true }
+        ensures { self.new.flags.items ≡ replicate CHOICE_PLACES true }
     {
         self.flags.fill(true);
     }
@@ -53,23 +51,27 @@ impl Kept {
 
     // Takes a choice out of the set.
     pub(crate) fn remove(&mut self, state: u32, choice: u32)
-        requires state { state < 256 }
-        requires choice { choice < 16 }
-        ensures { self.new.flags.items ≡ slice_set self.old.flags.items (16 * state + choice) false }
+        requires state { state < MOST_STATES }
+        requires choice { choice < MOST_CHOICES }
+        ensures { self.new.flags.items ≡ slice_set self.old.flags.items (MOST_CHOICES * state + choice) false }
     {
         self.flags[place(state, choice)] = false;
     }
 
-    // Writes the flags of the first states over what a list with room for them holds.
-    pub(crate) fn write_states(&self, states: u32, flags: &mut Vec<bool>)
-        requires few { states < 257 }
-        requires room { 4096 ≤ vec_capacity flags.old }
-        ensures flags { flags.new.items ≡ take (16 * states) self.now.flags.items }
-        ensures room { 4096 ≤ vec_capacity flags.new }
+    // Writes the flags of a model's states over what a list with room for them holds. No flag is set there but that of a choice that the
+    // model has.
+    pub(crate) fn write_choices(&self, model: &Model, flags: &mut Vec<bool>)
+        requires room { CHOICE_PLACES ≤ vec_capacity flags.old }
+        ensures flags { OwnFlags (table_of model.now) (table_of model.now).states self.now.flags.items flags.new.items }
+        ensures room { CHOICE_PLACES ≤ vec_capacity flags.new }
     {
         flags.clear();
-        flags
-            .extend_from_slice(&self.flags[..place(states, 0)])
-            .unwrap();
+        for state in 0..model.states() {
+            let first = place(state, 0);
+            let end = place(state, model.choices(state));
+            let of_state = &self.flags[first..end];
+            flags.extend_from_slice(of_state).unwrap();
+            flags.resize(place(state + 1, 0), false).unwrap();
+        }
     }
 }

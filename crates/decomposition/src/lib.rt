@@ -12,6 +12,5 @@ mod reach;
 mod scratch;
 mod taken;
 
-pub use apart::decompose;
 pub use parts::Parts;
 pub use scratch::Scratch;

@@ -1,8 +1,9 @@
 ghost use Rattle.std.specs.Prelude.{◌≡◌, vec_len};
 ghost use Rattle.decomposition.specs.Decomposed.{inside_in, node_in, component_in};
 
-use crate::kept::{MOST_CHOICES, place};
+use crate::kept::place;
 use crate::parts::Parts;
+use table::MOST_CHOICES;
 
 impl Parts {
     // How many nodes there are.

@@ -11,7 +11,7 @@ use crate::kept::Kept;
 use crate::parts::Parts;
 use crate::taken::TakenApart;
 use model::Model;
-use table::Source;
+use table::{MOST_STATES, Source};
 
 // How many choices a table has.
 pub(crate) fn count_choices(model: &Model) -> usize
@@ -24,7 +24,7 @@ pub(crate) fn count_choices(model: &Model) -> usize
 
 // The first state that a state reaches, itself at most.
 fn lowest_state(square: &Square, states: u32, state: u32) -> u32
-    requires few { states ≤ 256 }
+    requires few { states ≤ MOST_STATES }
     requires within { state < states }
     requires itself { bit_at square.now.rows.items state state ≡ true }
     ensures { result ≡ first states (bit_at square.now.rows.items state) }

@@ -9,7 +9,7 @@ ghost use Rattle.decomposition.specs.Marking.{branch_to, one_step, Shows, throug
 use crate::bits::{Row, Square, add_row, bit_in};
 use crate::kept::Kept;
 use model::Model;
-use table::Source;
+use table::{MOST_STATES, Source};
 
 // Marks the successors of a choice in the row of its state.
 fn mark_choice(model: &Model, state: u32, choice: u32, square: &mut Square)
@@ -44,11 +44,11 @@ fn mark_steps(model: &Model, kept: &Kept, square: &mut Square)
     }
 }
 
-// Adds the ways through one state: to each row that reaches it, its row. That there are at most 256 states is asked where a square comes without
-// its model, whose type says it. It takes the rows as a slice: in a method, over
+// Adds the ways through one state: to each row that reaches it, its row. How many states there are at most is asked where a square comes
+// without its model, whose type says it. It takes the rows as a slice: in a method, over
 // `self.rows[..states]`, which was tried, nothing is known of the rows after the loop.
 fn close_through(rows: &mut [Row], states: u32, middle: u32)
-    requires few { states ≤ 256 }
+    requires few { states ≤ MOST_STATES }
     requires enough { states ≤ length rows.old }
     requires within { middle < states }
     ensures size { length rows.new ≡ length rows.old }
@@ -65,7 +65,7 @@ fn close_through(rows: &mut [Row], states: u32, middle: u32)
 impl Square {
     // Adds all ways between the first states, by Warshall's rule.
     fn close(&mut self, states: u32)
-        requires { states ≤ 256 }
+        requires { states ≤ MOST_STATES }
         ensures { Shows states self.new.rows.items (closure (bit_at self.old.rows.items) states) }
     {
         for middle in 0..states {

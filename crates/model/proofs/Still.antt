@@ -1,5 +1,5 @@
 -- The table of one state that stays is lawful, and its rewards are 0.
-use Rattle.std.proofs.Common.{◌≡◌, ℕ, ◌<◌, ℤ, pos, ◌≤ℤ◌, refl, ap, subst, arith}
+use Rattle.std.proofs.Common.{◌≡◌, ℕ, ◌<◌, pos, refl, subst, arith}
 use Rattle.table.specs.Limits.{Lawful}
 use Rattle.model.specs.Room.{still_table}
 use Rattle.model.specs.Loads.{LeastReward, LargestReward}

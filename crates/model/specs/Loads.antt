@@ -1,20 +1,11 @@
 -- What loading a model gives.
-use Rattle.std.specs.Prelude.{◌≡◌, ℕ, ◌<◌, ℤ, ◌≤ℤ◌, Some, None}
+use Rattle.std.specs.Prelude.{◌≡◌, ℕ, ◌<◌, ℤ, ◌≤ℤ◌, Some}
 use Rattle.table.specs.Table.{Table}
 use Rattle.table.specs.Limits.{Lawful}
-use Rattle.table.specs.Faults.{noted, notice_of}
 use Rattle.table.specs.Walk.{fault_of}
 use Rattle.table.specs.declared.fault.Fault.{Fault}
-use Rattle.table.specs.declared.fault.Notice.{Notice}
 use Rattle.model.specs.Held.{table_of}
 use Rattle.model.specs.declared.model.Model.{Model}
-use Rattle.model.specs.declared.fault.LoadFault.{LoadFault}
-use Rattle.model.specs.declared.fault.LoadFault.TheVariants.{Limit, Memory}
-
--- the number of each load fault with its state, choice and branch: a broken limit as the table's fault has it
-abbrev pub load_notice_of : LoadFault → Notice
-load_notice_of (Limit e) = notice_of e
-load_notice_of Memory = noted 20 0 0 0
 
 -- r is the least reward of the table: a choice earns it, and none earns less
 pub record LeastReward (T : Table) (r : ℤ) : Type 0 where
@@ -36,8 +27,3 @@ pub record Loaded (T : Table) (m : Model) : Type 0 where
 -- a load is refused with the first broken limit on the walk, and leaves what there was
 abbrev pub StaysAt : {A : Type 0} → Table → A → A → Fault → Type 0
 StaysAt T old new e = (fault_of T ≡ Some e) × (new ≡ old)
-
--- what is made anew from a table is refused with the first broken limit, or with want of memory, only for a table that keeps them all
-abbrev pub RefusedLoad : Table → LoadFault → Type 0
-RefusedLoad T (Limit e) = fault_of T ≡ Some e
-RefusedLoad T Memory = fault_of T ≡ None

@@ -1,9 +1,7 @@
 -- Lists with places for the rows of every lawful table, and the table that a model holds before its first load.
-use Rattle.std.specs.Prelude.{ℕ, ◌≤◌, [], ◌∷◌, pos, vec_capacity}
+use Rattle.std.specs.Prelude.{◌≤◌, [], ◌∷◌, pos, vec_capacity}
 use Rattle.table.specs.Table.{Table}
 use Rattle.sources.specs.Rows.{list_table}
-use Rattle.sources.specs.declared.list.StateRow.{StateRow}
-use Rattle.sources.specs.declared.list.ChoiceRow.{ChoiceRow}
 use Rattle.sources.specs.declared.owned.OwnedList.{OwnedList}
 
 -- 256 states, 16 choices to each, 8 branches to each

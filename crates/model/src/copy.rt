@@ -3,8 +3,9 @@ ghost use Rattle.table.specs.Limits.{Lawful};
 ghost use Rattle.model.specs.Copy.{BranchesCopied, ChoicesCopied, TableCopied};
 ghost use Rattle.model.specs.Room.{HasRoom};
 
+use crate::sizes::BRANCH_PLACES;
 use sources::{ChoiceRow, OwnedList, StateRow};
-use table::Source;
+use table::{MOST_BRANCHES, MOST_CHOICES, Source};
 
 // The lists have room for the rows of every lawful table, so that nothing here asks for memory.
 
@@ -28,9 +29,9 @@ fn copy_choices<S: Source>(
 )
     requires lawful { Lawful (S.table source.now) }
     requires within { state < (S.table source.now).states }
-    requires choice_room { length choices.old.items + 16 ≤ vec_capacity choices.old }
-    requires branch_room { length branches.old.items + 128 ≤ vec_capacity branches.old }
-    requires few { length branches.old.items ≤ 128 * 256 }
+    requires choice_room { length choices.old.items + MOST_CHOICES ≤ vec_capacity choices.old }
+    requires branch_room { length branches.old.items + MOST_CHOICES * MOST_BRANCHES ≤ vec_capacity branches.old }
+    requires few { length branches.old.items ≤ BRANCH_PLACES }
     ensures copied { ChoicesCopied (S.table source.now) state ((S.table source.now).choices state) choices.old.items choices.new.items branches.old.items branches.new.items }
     ensures choice_room { vec_capacity choices.old ≤ vec_capacity choices.new }
     ensures branch_room { vec_capacity branches.old ≤ vec_capacity branches.new }

@@ -2,13 +2,12 @@
 #![tactic(auto)]
 
 mod copy;
-mod fault;
 mod lend;
 mod load;
 mod lookup;
 mod model;
-mod notice;
 mod rewards;
+mod sizes;
 
-pub use fault::LoadFault;
 pub use model::Model;
+pub use sizes::{BRANCH_PLACES, CHOICE_PLACES, STATE_PLACES};

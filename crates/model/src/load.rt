@@ -5,25 +5,19 @@ ghost use Rattle.model.specs.Room.{still_table};
 use crate::copy::copy_states;
 use crate::model::Model;
 use crate::rewards::{largest_reward, least_reward};
+use crate::sizes::{BRANCH_PLACES, CHOICE_PLACES, STATE_PLACES};
 use sources::{ChoiceRow, OwnedList, StateRow};
 use std::alloc::{AllocError, Global};
 use table::{Fault, Source, check};
-
-// The most that a lawful table has.
-const MOST_STATES: usize = 256;
-
-const MOST_CHOICES: usize = 16 * MOST_STATES;
-
-const MOST_BRANCHES: usize = 8 * MOST_CHOICES;
 
 impl Model {
     // A table of one state that stays, in lists with room for every lawful table: a load then asks for no memory.
     pub fn new(heap: Global) -> Result<Model, AllocError>
         ensures { IfOk result (Loaded still_table) }
     {
-        let mut states = Vec::with_capacity(heap, MOST_STATES)?;
-        let mut choices = Vec::with_capacity(heap, MOST_CHOICES)?;
-        let mut branches = Vec::with_capacity(heap, MOST_BRANCHES)?;
+        let mut states = Vec::with_capacity(heap, STATE_PLACES)?;
+        let mut choices = Vec::with_capacity(heap, CHOICE_PLACES)?;
+        let mut branches = Vec::with_capacity(heap, BRANCH_PLACES)?;
         states.push(StateRow { first: 0, count: 1 }).unwrap();
         choices
             .push(ChoiceRow {

@@ -1,4 +1,4 @@
-use decomposition::{Parts, decompose};
+use decomposition::{Parts, Scratch};
 use model::Model;
 use samples::{Weights, chain, exits, export, largest};
 use sources::Band;
@@ -33,11 +33,15 @@ fn the_export_is_not(rt: HostRuntime) {
 fn a_model_is_taken_apart(rt: HostRuntime) -> Result<(), Fail> {
     let heap = rt.alloc();
     let mut model = Model::new(heap)?;
+    let mut scratch = Scratch::new(heap)?;
+    let mut parts = Parts::new(heap)?;
     model.load(&Band::new(2, 5, 40))?;
-    let parts = Parts::of(heap, &model)?;
+    parts.take_apart(&mut scratch, &model);
     assert_eq!(rt; (parts.nodes(), parts.components()), (1, 1));
     assert_eq!(rt; (parts.node_of(4), parts.component_at(0)), (0, Some(0)));
     assert_eq!(rt; parts.is_inside(4, 1), true);
+    // it has two choices
+    assert_eq!(rt; parts.is_inside(4, 2), false);
     Ok(())
 }
 
@@ -45,9 +49,14 @@ fn a_model_is_taken_apart(rt: HostRuntime) -> Result<(), Fail> {
 #[test]
 fn large_tables_are_taken_apart(rt: HostRuntime) -> Result<(), Fail> {
     let heap = rt.alloc();
-    let parts = decompose(heap, &largest(heap, 0, Weights::Even)?)?;
+    let mut model = Model::new(heap)?;
+    let mut scratch = Scratch::new(heap)?;
+    let mut parts = Parts::new(heap)?;
+    model.load(&largest(heap, 0, Weights::Even)?)?;
+    parts.take_apart(&mut scratch, &model);
     assert_eq!(rt; (parts.nodes(), parts.components()), (1, 1));
-    let parts = decompose(heap, &exits(heap, 10_000, Weights::Uneven)?)?;
+    model.load(&exits(heap, 10_000, Weights::Uneven)?)?;
+    parts.take_apart(&mut scratch, &model);
     assert_eq!(rt; (parts.nodes(), parts.components()), (241, 1));
     Ok(())
 }

@@ -3,19 +3,22 @@
 
 mod shape;
 mod show;
+mod space;
 
-use shape::{SHAPES, Shape, parts_of};
+use shape::{SHAPES, Shape, lists_of};
 use show::Found;
+use space::Space;
 
 // The name of a shape, the node of each state, the component of each node, and for each state whether each choice is inside.
-fn show_all(rt: &HostRuntime) -> anyhow::Result<()> {
+fn show_all(rt: &HostRuntime, space: &mut Space) -> anyhow::Result<()> {
     for shape in SHAPES {
         let name = shape.name;
-        match parts_of(rt.alloc(), &shape) {
-            Ok(parts) => println!(rt;
+        let lists = lists_of(rt.alloc(), &shape)?;
+        match space.take_apart(&lists) {
+            Ok(()) => println!(rt;
                 "{name} {}",
                 Found {
-                    parts: &parts,
+                    parts: &space.parts,
                     counts: shape.states
                 }
             )?,
@@ -29,7 +32,7 @@ fn show_all(rt: &HostRuntime) -> anyhow::Result<()> {
 }
 
 // 256 states with one choice each, to the state itself or to the next one, and how many nodes and components there are.
-fn show_large(rt: &HostRuntime, name: &str, step: u32) -> anyhow::Result<()> {
+fn show_large(rt: &HostRuntime, space: &mut Space, name: &str, step: u32) -> anyhow::Result<()> {
     let ones = [1u32; 256];
     let branches: Vec<(u32, u32)> = (0..256u32)
         .map(|state| (state.wrapping_add(step) % 256, 1))
@@ -41,10 +44,11 @@ fn show_large(rt: &HostRuntime, name: &str, step: u32) -> anyhow::Result<()> {
         choices: &ones,
         branches: &branches,
     };
-    match parts_of(rt.alloc(), &shape) {
-        Ok(parts) => {
-            let nodes = parts.nodes();
-            let components = parts.components();
+    let lists = lists_of(rt.alloc(), &shape)?;
+    match space.take_apart(&lists) {
+        Ok(()) => {
+            let nodes = space.parts.nodes();
+            let components = space.parts.components();
             println!(rt; "{name} nodes {nodes} components {components}")?;
         }
         Err(_) => println!(rt; "{name} refused")?,
@@ -53,7 +57,8 @@ fn show_large(rt: &HostRuntime, name: &str, step: u32) -> anyhow::Result<()> {
 }
 
 fn main(rt: HostRuntime) -> anyhow::Result<()> {
-    show_all(&rt)?;
-    show_large(&rt, "many", 0)?;
-    show_large(&rt, "ring", 1)
+    let mut space = Space::new(rt.alloc())?;
+    show_all(&rt, &mut space)?;
+    show_large(&rt, &mut space, "many", 0)?;
+    show_large(&rt, &mut space, "ring", 1)
 }

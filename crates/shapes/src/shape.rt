@@ -1,6 +1,4 @@
-use decomposition::{Parts, decompose};
-use model::LoadFault;
-use sources::{ChoiceRow, List, StateRow};
+use sources::{ChoiceRow, OwnedList, StateRow};
 use std::alloc::{AllocError, Global};
 
 // A table without rewards: how many choices each state has, how many branches each choice has, and what the branches are.
@@ -31,8 +29,8 @@ fn rows<T: Drop, F: Fn(u32, u32) -> T>(
     Ok(rows)
 }
 
-// The parts of a shape's table.
-pub(crate) fn parts_of(heap: Global, shape: &Shape<'_>) -> Result<Parts, LoadFault> {
+// The lists of a shape's table.
+pub(crate) fn lists_of(heap: Global, shape: &Shape<'_>) -> Result<OwnedList, AllocError> {
     let states = rows(heap, shape.states, |first, count| StateRow { first, count })?;
     let choices = rows(
         heap,
@@ -43,8 +41,13 @@ pub(crate) fn parts_of(heap: Global, shape: &Shape<'_>) -> Result<Parts, LoadFau
             count,
         },
     )?;
-    let list = List::new(shape.denominator, &states, &choices, shape.branches);
-    decompose(heap, &list)
+    let branches = shape.branches.to_vec(heap)?;
+    Ok(OwnedList {
+        denominator: shape.denominator,
+        states,
+        choices,
+        branches,
+    })
 }
 
 // One choice for each state, with one branch of weight 1; two branches or two choices somewhere; a branch that leads away;

@@ -1,15 +1,19 @@
-use decomposition::Parts;
-use model::{LoadFault, Model};
-use std::alloc::Global;
+use decomposition::{Parts, Scratch};
+use model::Model;
 use std::io;
 use table::Source;
 
-// The states and components of a table, and of each state its node and how many of its choices are inside.
+// The states and components of a table, and of each state its node and how many of its choices are inside; of a table that
+// breaks a limit, the number of the first one.
 pub(crate) fn print_parts<S: Source>(rt: &HostRuntime, source: &S) -> io::Result<()> {
-    let (model, parts) = match taken_apart(rt.alloc(), source) {
-        Ok(taken) => taken,
-        Err(fault) => return refused(rt, fault),
-    };
+    let mut model = Model::new(rt.alloc())?;
+    let mut scratch = Scratch::new(rt.alloc())?;
+    let mut parts = Parts::new(rt.alloc())?;
+    if let Err(fault) = model.load(source) {
+        let number = fault.notice().number;
+        return println!(rt; "   refused: {number}");
+    }
+    parts.take_apart(&mut scratch, &model);
     let states = model.states();
     let components = parts.components();
     let nodes = parts.nodes();
@@ -22,18 +26,4 @@ pub(crate) fn print_parts<S: Source>(rt: &HostRuntime, source: &S) -> io::Result
         println!(rt; "   {state} | node {node}, inside choices {inside}")?;
     }
     Ok(())
-}
-
-// The engine's own copy of a table, and its parts.
-fn taken_apart<S: Source>(heap: Global, source: &S) -> Result<(Model, Parts), LoadFault> {
-    let mut model = Model::new(heap)?;
-    model.load(source)?;
-    let parts = Parts::of(heap, &model)?;
-    Ok((model, parts))
-}
-
-// A refusal, by its number alone.
-fn refused(rt: &HostRuntime, fault: LoadFault) -> io::Result<()> {
-    let number = fault.notice().number;
-    println!(rt; "   refused: {number}")
 }

@@ -1,8 +1,7 @@
-use Rattle.std.proofs.Common.{◌≡◌, ℕ, List, [], ◌∷◌, ◌++◌, pos, vec_items, refl, ap, ◌∙◌, ap₂}
+use Rattle.std.proofs.Common.{◌≡◌, ℕ, List, [], ◌∷◌, ◌++◌, pos, vec_items, ap, ◌∙◌, ap₂}
 use Rattle.sources.specs.Rows.{list_table}
 use Rattle.sources.specs.declared.list.StateRow.{StateRow}
 use Rattle.sources.specs.declared.list.ChoiceRow.{ChoiceRow}
-use Rattle.table.specs.Table.{Table}
 use Rattle.model.proofs.Pushes.{pushed}
 use Rattle.model.proofs.Still.{still_lawful, still_least, still_largest}
 use Rattle.model.proofs.model.Model.new.Goals as goal
