@@ -1,4 +1,4 @@
-use Rattle.std.proofs.Common.{◌+◌, ◌≤◌, length, vec_items, ◌∙◌, ap, arith}
+use Rattle.std.proofs.Common.{length, vec_items, ◌∙◌, ap, arith}
 use Rattle.std.proofs.lemmas.List.{length-append}
 use Rattle.decomposition.specs.Decomposed.{node_in}
 use Rattle.book.specs.Grouped.{states_at}
