@@ -1,10 +1,10 @@
 -- The steps of listing the states node by node.
-use Rattle.std.proofs.Common.{◌≡◌, ℕ, zero, suc, ◌+◌, ◌-◌, ◌<◌, ◌≤◌, Bool, cond, not, eqb, ltb, List, [], ◌∷◌, ◌++◌, map, length, get_or, take, drop, filter, sym, refl, ap, ◌∙◌, subst, ap₂, ⊎_elim, arith}
+use Rattle.std.proofs.Common.{◌≡◌, ℕ, zero, suc, ◌+◌, ◌-◌, ◌<◌, ◌≤◌, Bool, cond, not, eqb, ltb, List, [], ◌∷◌, ◌++◌, length, get_or, take, drop, filter, sym, refl, ap, ◌∙◌, subst, ap₂, ⊎_elim, arith}
 use Rattle.std.specs.List.{range_with_len}
 use Rattle.std.proofs.lemmas.List.FromFn.{length-range_with_len, filter_of_map_range_with_len_more}
 use Rattle.std.proofs.lemmas.List.Filters.{length-filter_both}
-use Rattle.std.proofs.lemmas.List.{length-append, length_push, get_or_push, get_or_append_left, take-append-le, drop-append-le, drop_at, take_all, length-drop}
-use Rattle.std.proofs.lemmas.Bool.{cases_eq, cases_lt, lt-ltb, le-ltb, eq-eqb, ne_eqb}
+use Rattle.std.proofs.lemmas.List.{map-id, length-append, length_push, get_or_push, get_or_append_left, take-append-le, drop-append-le, drop_at, take_all, length-drop}
+use Rattle.std.proofs.lemmas.Bool.{cases_eq, eq-eqb}
 use Rattle.book.specs.Grouped.{states_at, Grouped}
 
 -- what a test keeps of the first k states is no more than these
@@ -20,38 +20,17 @@ split_below : (node : ℕ → ℕ) (v : ℕ) (xs : List ℕ)
 split_below node v [] = refl
 split_below node v (x ∷ xs) =
     let r = split_below node v xs in
-    ⊎_elim
-    (λ (h : node x < v).
-    let a = lt-ltb (node x) (v + 1) (omega arith) in
-    let b = lt-ltb (node x) v h in
-    let d = ne_eqb (node x) v (λ e. omega arith) in
-    rw (a, b, d) (omega arith))
-    (λ (h : v ≤ node x). ⊎_elim
-    (λ (e : node x ≡ v).
-    let a = lt-ltb (node x) (v + 1) (omega arith) in
-    let b = le-ltb (node x) v h in
-    let d = eq-eqb (node x) v e in
-    rw (a, b, d) (omega arith))
-    (λ (e : node x ≡ v → ⊥).
-    let a = le-ltb (node x) (v + 1) (omega arith) in
-    let b = le-ltb (node x) v h in
-    let d = ne_eqb (node x) v e in
-    rw (a, b, d) (omega arith))
-    (cases_eq (node x) v))
-    (cases_lt (node x) v)
+    grind arith
 
 -- one more state
-same_map : (xs : List ℕ) → map (λ x. x) xs ≡ xs
-same_map [] = refl
-same_map (x ∷ xs) = ap (λ ys. x ∷ ys) (same_map xs)
-
 pub states_more : (node : ℕ → ℕ) (k v : ℕ) → states_at node (k + 1) v ≡ states_at node k v ++ cond (eqb (node k) v) (k ∷ []) []
 states_more node k v =
     let p : ℕ → Bool = λ s. eqb (node s) v in
-    sym (ap (filter p) (same_map (range_with_len 0 (k + 1))))
+    sym (ap (filter p) (map-id (range_with_len 0 (k + 1))))
     ∙ filter_of_map_range_with_len_more p (λ x. x) 0 k k (omega arith)
-    ∙ ap (λ xs. filter p xs ++ cond (p k) (k ∷ []) []) (same_map (range_with_len 0 k))
+    ∙ ap (λ xs. filter p xs ++ cond (p k) (k ∷ []) []) (map-id (range_with_len 0 k))
 
+-- of more states no fewer are members
 longer : (node : ℕ → ℕ) (v k d : ℕ) → length (states_at node k v) ≤ length (states_at node (k + d) v)
 longer node v k zero = let e : k + 0 ≡ k = omega arith in let q = ap (λ i. length (states_at node i v)) e in omega arith
 longer node v k (suc d) =
@@ -91,7 +70,7 @@ part_added : (xs ys : List ℕ) (a b : ℕ) → a ≡ length xs → b ≡ length
 part_added xs ys a b h l =
     ap (λ (zs : List ℕ). take (b - a) zs) (drop_at xs ys a (sym h)) ∙ take_all (b - a) ys (omega arith)
 
-module _ (node : ℕ → ℕ) (n k x : ℕ) (starts next members more : List ℕ) (small : n ≤ 256) where
+module _ (node : ℕ → ℕ) (n k x : ℕ) (starts next members more : List ℕ) where
   pub grouped_more : Grouped node n k starts members → more ≡ members ++ states_at node n k
       → next ≡ starts ++ (x ∷ []) → x ≡ length more → Grouped node n (k + 1) next more
   grouped_more G eM eS ex = record {

@@ -1,10 +1,9 @@
 -- The lists made from a model and its parts hold what belongs to its table.
-use Rattle.std.proofs.Common.{◌≡◌, ℕ, zero, suc, ◌+◌, ◌*◌, ◌<◌, ◌≤◌, Bool, false, cond, ◌&&◌, eqb, List, ◌∷◌, length, get_or, Some, vec_items, vec_len, filter, sym, refl, ap, ◌∙◌, subst, ap₂, arith}
+use Rattle.std.proofs.Common.{◌≡◌, ℕ, zero, suc, ◌+◌, ◌*◌, ◌<◌, Bool, false, cond, ◌&&◌, eqb, List, ◌∷◌, length, get_or, Some, vec_items, vec_len, filter, sym, refl, ap, ◌∙◌, subst, ap₂, arith}
 use Rattle.std.specs.List.{range_with_len}
 use Rattle.std.proofs.lemmas.Bool.{lt-ltb}
 use Rattle.table.specs.Table.{Table}
 use Rattle.components.specs.Nodes.{nodes, node_of, components, component_at}
-use Rattle.components.proofs.Law.{nodes_within}
 use Rattle.rules.proofs.Nodes.{some_state, of_component, node_number, component_some}
 use Rattle.decomposition.specs.Decomposed.{node_in, Decomposed}
 use Rattle.decomposition.specs.declared.parts.Parts.{Parts}
@@ -23,13 +22,6 @@ kept_ext p q s (suc n) h =
 module _ (T : Table) (p : Parts) (D : Decomposed T p) where
   pub component_size : length (vec_items p.component) ≡ nodes T
   component_size = sym p.component.ok.0 ∙ D.nodes_are
-
-  pub few_components : p.components ≤ 256
-  few_components =
-      let w = nodes_within T.states T D.lawful refl in
-      let a = D.lawful.states.1 in
-      let b = D.components_are in
-      omega (arith, w.0, w.1)
 
   pub insides : InsidesAt T (vec_items p.inside)
   insides s c q =

@@ -2,6 +2,7 @@
 use Rattle.std.proofs.Common.{◌≡◌, ℕ, ◌+◌, ◌*◌, ◌<◌, ◌≤◌, false, ltb, leb, List, length, get_or, take, drop, refl, ap, ◌∙◌, subst, inl, inr, arith}
 use Rattle.std.proofs.lemmas.List.{length-take, length-drop, get_or-take, get_or-drop}
 use Rattle.std.proofs.lemmas.Bool.{cases_Bool, cond-true, cond-false, leb-true, lt-ltb}
+use Rattle.table.specs.Table.{Table}
 use Rattle.table.specs.Limits.{Lawful}
 use Rattle.sources.specs.Rows.{run, no_state, no_choice, state_count, state_at, choice_at}
 use Rattle.sources.specs.declared.list.StateRow.{StateRow}
@@ -12,6 +13,13 @@ use Rattle.components.specs.Nodes.{nodes, components}
 use Rattle.components.proofs.Law.{nodes_within}
 use Rattle.book.specs.Layouts.{state_rows, choice_rows, branch_rows, inside_flags, layout_table, row_of, choice_of}
 use Rattle.book.specs.declared.layout.Layout.{Layout}
+
+-- a lawful table has few nodes, and no more components
+pub lawful_few : (T : Table) → Lawful T → (nodes T ≤ 256) × (components T ≤ 256)
+lawful_few T L =
+    let w = nodes_within T.states T L refl in
+    let a = L.states.1 in
+    (omega (arith, w.0), omega (arith, w.0, w.1))
 
 -- a run that has places has them all, within its list
 run_whole : (first count size : ℕ) → 1 ≤ run first count size → (run first count size ≡ count) × (first + count ≤ size)
@@ -30,18 +38,12 @@ module _ (l : Layout) where
   pub states_are : (layout_table l).states ≡ length (state_rows l)
   states_are = let a = law.states.1 in omega arith
 
-  -- there are few nodes, and no more components
+  -- there are few nodes and few components
   pub nodes_few : nodes (layout_table l) ≤ 256
-  nodes_few =
-      let w = nodes_within (layout_table l).states (layout_table l) law refl in
-      let a = law.states.1 in
-      omega (arith, w.0)
+  nodes_few = (lawful_few (layout_table l) law).0
 
   pub components_few : components (layout_table l) ≤ 256
-  components_few =
-      let w = nodes_within (layout_table l).states (layout_table l) law refl in
-      let a = law.states.1 in
-      omega (arith, w.0, w.1)
+  components_few = (lawful_few (layout_table l) law).1
 
   module _ (s : ℕ) (h : s < (layout_table l).states) where
     state_is : state_at (state_rows l) (choice_rows l) (branch_rows l) s ≡ row_of l s
@@ -68,10 +70,10 @@ module _ (l : Layout) where
 
       -- the flag of a choice
       pub flag_is : get_or (inside_flags l) (16 * s + c) false ≡ inside (layout_table l) s c
-      flag_is = l.insides s c (record { state = h; choice = k })
+      flag_is = l.held.insides s c (record { state = h; choice = k })
 
       pub flag_within : 16 * s + c < length (inside_flags l)
-      flag_within = let few = (law.choices s h).1 in let e = l.inside_size in omega arith
+      flag_within = let few = (law.choices s h).1 in let e = l.held.inside_size in omega arith
 
       -- the branches of a choice
       pub branches_are : (layout_table l).branches s c ≡ (choice_of l s c).count

@@ -16,11 +16,11 @@ module _ (f : Layout) where
 
   module _ (s c : ℕ) (h : s < (layout_table f).states) (k : c < (layout_table f).choices s) where
     abbrev nodes_of : ℕ × ℕ → ℕ × ℕ
-    nodes_of = link_of (λ u. get_or (vec_items f.parts.node) u 0)
+    nodes_of = link_of (λ u. get_or (vec_items f.lists.parts.node) u 0)
 
     pub links_within : (choice_of f s c).first + (choice_of f s c).count ≤ length (link_rows f)
     links_within =
-        let e = ap length f.links_are ∙ length-map (branch_rows f) nodes_of in
+        let e = ap length f.held.links_are ∙ length-map (branch_rows f) nodes_of in
         let w = branches_within f s h c k in
         omega arith
 
@@ -31,8 +31,8 @@ module _ (f : Layout) where
         let i : ℕ = (choice_of f s c).first + b in
         let e = branches_are f s h c k in
         let w = branches_within f s h c k in
-        ap (λ (xs : List (ℕ × ℕ)). get_or xs i (0, 0)) f.links_are
+        ap (λ (xs : List (ℕ × ℕ)). get_or xs i (0, 0)) f.held.links_are
         ∙ get_or-map nodes_of (branch_rows f) i (0, 0) (0, 0) (omega arith)
         ∙ ap nodes_of (sym (branch_is f s h c k b l))
         ∙ ap (λ (v : ℕ). (v, weight (layout_table f) s c b))
-        (f.node_at (successor (layout_table f) s c b) ((law f).successors s c b h k l))
+        (f.held.node_at (successor (layout_table f) s c b) ((law f).successors s c b h k l))

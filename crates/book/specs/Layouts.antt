@@ -23,10 +23,10 @@ branch_rows l = vec_items l.model.rows.branches
 
 -- each branch with the node of its successor, and of each choice whether it is inside
 abbrev pub link_rows : Layout → List (ℕ × ℕ)
-link_rows l = vec_items l.links
+link_rows l = vec_items l.lists.links
 
 abbrev pub inside_flags : Layout → List Bool
-inside_flags l = vec_items l.parts.inside
+inside_flags l = vec_items l.lists.parts.inside
 
 abbrev pub layout_table : Layout → Table
 layout_table l = table_of l.model

@@ -1,20 +1,48 @@
-ghost use Rattle.std.specs.Prelude.{◌≡◌, IfOk, MatchResult};
+ghost use Rattle.std.specs.Prelude.{IfOk, MatchResult};
 ghost use Rattle.model.specs.Loads.{StaysAt};
 ghost use Rattle.model.specs.Room.{still_table};
+ghost use Rattle.book.specs.Facts.{ListsHold};
 ghost use Rattle.book.specs.Layouts.{LaidOut};
 
 use crate::groups::group_states;
 use crate::layout::Layout;
 use crate::listed::{link_branches, list_homes};
+use crate::lists::Lists;
 use decomposition::{Parts, Scratch};
 use model::Model;
 use std::alloc::{AllocError, Global};
-use table::{Fault, Source};
+use table::{Fault, MOST_BRANCHES, MOST_CHOICES, MOST_STATES, Source};
 
-// The most that a lawful table has.
-const MOST_STATES: usize = 256;
+impl Lists {
+    // Lists with room for those of every lawful table.
+    fn new(heap: Global) -> Result<Lists, AllocError> {
+        let states = MOST_STATES as usize;
+        let branches = states * MOST_CHOICES as usize * MOST_BRANCHES as usize;
+        Ok(Lists {
+            parts: Parts::new(heap)?,
+            links: Vec::with_capacity(heap, branches)?,
+            members: Vec::with_capacity(heap, states)?,
+            starts: Vec::with_capacity(heap, states + 1)?,
+            home: Vec::with_capacity(heap, states)?,
+            scratch: Scratch::new(heap)?,
+        })
+    }
 
-const MOST_BRANCHES: usize = 128 * MOST_STATES;
+    // Writes what belongs to a model's table over what the lists hold.
+    fn fill(&mut self, model: &Model)
+        ensures { ListsHold model.now self.new }
+    {
+        self.parts.take_apart(&mut self.scratch, model);
+        link_branches(&self.parts, &model.rows.branches, &mut self.links);
+        group_states(
+            &self.parts,
+            model.states(),
+            &mut self.members,
+            &mut self.starts,
+        );
+        list_homes(&self.parts, &mut self.home);
+    }
+}
 
 impl Layout {
     // The layout of a table of one state that stays, with room for every lawful table.
@@ -22,25 +50,9 @@ impl Layout {
         ensures { IfOk result (LaidOut still_table) }
     {
         let model = Model::new(heap)?;
-        let mut parts = Parts::new(heap)?;
-        let mut scratch = Scratch::new(heap)?;
-        let mut links = Vec::with_capacity(heap, MOST_BRANCHES)?;
-        let mut members = Vec::with_capacity(heap, MOST_STATES)?;
-        let mut starts = Vec::with_capacity(heap, MOST_STATES + 1)?;
-        let mut home = Vec::with_capacity(heap, MOST_STATES)?;
-        parts.take_apart(&mut scratch, &model);
-        link_branches(&parts, &model.rows.branches, &mut links);
-        group_states(&parts, model.states(), &mut members, &mut starts);
-        list_homes(&parts, &mut home);
-        Ok(Layout {
-            model,
-            links,
-            parts,
-            members,
-            starts,
-            home,
-            scratch,
-        })
+        let mut lists = Lists::new(heap)?;
+        lists.fill(&model);
+        Ok(Layout { model, lists })
     }
 
     // Takes the source's table in place of the one that it holds, if it is lawful; else it stays as it is, and answers
@@ -49,15 +61,7 @@ impl Layout {
         ensures { MatchResult result (λ _. LaidOut (S.table source.now) self.new) (StaysAt (S.table source.now) self.old self.new) }
     {
         self.model.load(source)?;
-        self.parts.take_apart(&mut self.scratch, &self.model);
-        link_branches(&self.parts, &self.model.rows.branches, &mut self.links);
-        group_states(
-            &self.parts,
-            self.model.states(),
-            &mut self.members,
-            &mut self.starts,
-        );
-        list_homes(&self.parts, &mut self.home);
+        self.lists.fill(&self.model);
         Ok(())
     }
 }

@@ -10,6 +10,7 @@ mod lay;
 mod layout;
 mod leaving;
 mod listed;
+mod lists;
 mod mean;
 mod places;
 mod play;

@@ -7,6 +7,7 @@ ghost use Rattle.book.specs.Listed.{link_of};
 
 use crate::layout::Layout;
 use sources::ChoiceRow;
+use table::MOST_CHOICES;
 
 // The run of a choice in a list, by the row of the choice.
 fn run_in(list: &[(u32, u32)], row: ChoiceRow) -> &[(u32, u32)]
@@ -26,7 +27,7 @@ impl Layout {
         ensures count { result ≡ (layout_table self.now).states }
         ensures few { result ≤ 256 }
     {
-        self.parts.node.len() as u32
+        self.lists.parts.node.len() as u32
     }
 
     // How many nodes there are.
@@ -35,7 +36,7 @@ impl Layout {
         ensures count { result ≡ nodes (layout_table self.now) }
         ensures few { result ≤ 256 }
     {
-        self.parts.component.len() as u32
+        self.lists.parts.component.len() as u32
     }
 
     // How many components there are.
@@ -44,7 +45,7 @@ impl Layout {
         ensures count { result ≡ components (layout_table self.now) }
         ensures few { result ≤ 256 }
     {
-        self.home.len() as u32
+        self.lists.home.len() as u32
     }
 
     // How many choices a state has.
@@ -91,7 +92,7 @@ impl Layout {
         ensures size { length result.now ≡ (layout_table self.now).branches state choice }
         ensures at { (b : ℕ) → b < (layout_table self.now).branches state choice → slice_index_or result.now b (0, 0) ≡ link_of (node_of (layout_table self.now)) ((layout_table self.now).branch state choice b) }
     {
-        run_in(&self.links, self.choice(state, choice))
+        run_in(&self.lists.links, self.choice(state, choice))
     }
 
     // Whether a choice is inside.
@@ -100,8 +101,8 @@ impl Layout {
         requires choice { choice < (layout_table self.now).choices state }
         ensures { result ≡ inside (layout_table self.now) state choice }
     {
-        // 16 to a state, as the parts lay them; their own place is a function of crate decomposition alone
-        self.parts.inside[16 * state as usize + choice as usize]
+        // the places of a state, as the parts lay them; their own place is a function of crate decomposition alone
+        self.lists.parts.inside[MOST_CHOICES as usize * state as usize + choice as usize]
     }
 
     // The node of a state.
@@ -109,7 +110,7 @@ impl Layout {
         requires { state < (layout_table self.now).states }
         ensures { result ≡ node_of (layout_table self.now) state }
     {
-        self.parts.node[state as usize]
+        self.lists.parts.node[state as usize]
     }
 
     // The component that a node is, if it is one.
@@ -117,7 +118,7 @@ impl Layout {
         requires { node < nodes (layout_table self.now) }
         ensures { result ≡ component_at (layout_table self.now) node }
     {
-        self.parts.component[node as usize]
+        self.lists.parts.component[node as usize]
     }
 
     // The node of a component.
@@ -126,7 +127,7 @@ impl Layout {
         ensures node { result < nodes (layout_table self.now) }
         ensures home { component_at (layout_table self.now) result ≡ Some component }
     {
-        self.home[component as usize]
+        self.lists.home[component as usize]
     }
 
     // The states of a node, rising.
@@ -134,8 +135,8 @@ impl Layout {
         requires { node < nodes (layout_table self.now) }
         ensures { result.now ≡ node_states (layout_table self.now) node }
     {
-        let first = self.starts[node as usize] as usize;
-        let end = self.starts[node as usize + 1] as usize;
-        &self.members[first..end]
+        let first = self.lists.starts[node as usize] as usize;
+        let end = self.lists.starts[node as usize + 1] as usize;
+        &self.lists.members[first..end]
     }
 }

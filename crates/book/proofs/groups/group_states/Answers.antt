@@ -1,4 +1,4 @@
-use Rattle.std.proofs.Common.{◌+◌, ◌≤◌, length, vec_items, ◌∙◌, ap, arith}
+use Rattle.std.proofs.Common.{length, vec_items, ◌∙◌, ap, arith}
 use Rattle.std.proofs.lemmas.List.{length-append}
 use Rattle.decomposition.specs.Decomposed.{node_in}
 use Rattle.book.specs.Grouped.{states_at}
@@ -22,7 +22,7 @@ overflow_cast-len c =
 pub loop-node-preserved : goal.loop-node-preserved
 loop-node-preserved c = (
   grouped_more (node_in c.args.parts.now) c.args.states c.loop-node.node c.len.result (vec_items c.loop-node.starts) (vec_items c.push-in-loop-node.new.self)
-      (vec_items c.loop-node.members) (vec_items c.add_members.new.members) c.requires.few c.loop-node.invariant.0
+      (vec_items c.loop-node.members) (vec_items c.add_members.new.members) c.loop-node.invariant.0
       c.add_members.ensures.added
       (pushed c.push-in-loop-node.result c.unwrap-in-loop-node.result (vec_items c.loop-node.starts) _ _ c.unwrap-in-loop-node.ensures c.push-in-loop-node.ensures.items)
       (c.len.ensures ∙ c.add_members.new.members.ok.0),

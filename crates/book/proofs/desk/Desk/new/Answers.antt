@@ -1,6 +1,5 @@
-use Rattle.book.specs.Layouts.{layout_table}
 use Rattle.book.proofs.Keeps.{keeps_from}
 use Rattle.book.proofs.desk.Desk.new.Goals as goal
 
 pub invariant_of-result : goal.invariant_of-result
-invariant_of-result c = record { kept = keeps_from (layout_table c.in_ok-layout.layout) c.start.new.self c.start.ensures.kept }
+invariant_of-result c = record { kept = keeps_from _ c.start.new.self c.start.ensures.kept }

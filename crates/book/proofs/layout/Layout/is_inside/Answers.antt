@@ -7,7 +7,7 @@ use Rattle.book.proofs.layout.Layout.is_inside.Goals as goal
 pub index-requires : goal.index-requires
 index-requires c =
     let l = c.args.self.now in
-    omega (arith, flag_within l c.args.state c.requires.state c.args.choice c.requires.choice, l.parts.inside.ok.0)
+    omega (arith, flag_within l c.args.state c.requires.state c.args.choice c.requires.choice, l.lists.parts.inside.ok.0)
 
 pub returns : goal.returns
 returns c =
