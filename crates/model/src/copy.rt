@@ -9,15 +9,20 @@ use table::{MOST_BRANCHES, MOST_CHOICES, Source};
 
 // The lists have room for the rows of every lawful table, so that nothing here asks for memory.
 
-// Adds the branches of a choice. Not by `extend`: no clause says that it succeeds where there is room.
+// Adds the branches of a choice. They are read into a run of their own first: nothing is written to the lists between two questions,
+// so that a source is not asked for the same row again at each branch.
 fn copy_branches<S: Source>(source: &S, state: u32, choice: u32, branches: &mut Vec<(u32, u32)>)
+    requires few { (S.table source.now).branches state choice ≤ MOST_BRANCHES }
     requires room { length branches.old.items + (S.table source.now).branches state choice ≤ vec_capacity branches.old }
     ensures copied { BranchesCopied (S.table source.now) state choice branches.old.items branches.new.items }
     ensures room { vec_capacity branches.old ≤ vec_capacity branches.new }
 {
-    for branch in 0..source.branches(state, choice) {
-        branches.push(source.branch(state, choice, branch)).unwrap();
+    let mut run = [(0, 0); MOST_BRANCHES as usize];
+    let count = source.branches(state, choice);
+    for branch in 0..count {
+        run[branch as usize] = source.branch(state, choice, branch);
     }
+    branches.extend_from_slice(&run[..count as usize]).unwrap();
 }
 
 // Adds the choices of a state, with their branches.
