@@ -1,19 +1,28 @@
-ghost use Rattle.std.specs.Prelude.{◌≡◌, ◌≤◌, map, length, vec_capacity};
+ghost use Rattle.std.specs.Prelude.{◌≡◌, ◌≤◌, map, length, slice_index, vec_capacity};
 ghost use Rattle.decomposition.specs.Decomposed.{node_in};
 ghost use Rattle.book.specs.Listed.{link_of, Homes};
 
 use decomposition::Parts;
 
-// Writes each branch, with the node of its successor in the successor's place, over what the list holds.
+// Writes each branch, with the node of its successor in the successor's place; 0 for a successor that has no node.
+fn write_links(node: &[u32], branches: &[(u32, u32)], links: &mut [(u32, u32)])
+    requires { length links.old ≡ length branches.now }
+    ensures { links.new ≡ map (link_of (slice_index node.now)) branches.now }
+{
+    for (place, &(successor, weight)) in branches.iter().enumerate() {
+        let home = node.get(successor as usize).copied().unwrap_or(0);
+        links[place] = (home, weight);
+    }
+}
+
+// Writes each branch so, over what the list holds.
 pub(crate) fn link_branches(parts: &Parts, branches: &[(u32, u32)], links: &mut Vec<(u32, u32)>)
     requires { length branches.now ≤ vec_capacity links.old }
     ensures links { links.new.items ≡ map (link_of (node_in parts.now)) branches.now }
     ensures room { vec_capacity links.old ≤ vec_capacity links.new }
 {
-    links.clear();
-    for &(successor, weight) in branches {
-        links.push((parts.node_of(successor), weight)).unwrap();
-    }
+    links.resize(branches.len(), (0, 0)).unwrap();
+    write_links(&parts.node, branches, links);
 }
 
 // Writes each node at the place of the component that it is.
