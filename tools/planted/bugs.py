@@ -1,10 +1,10 @@
 """The bugs that are planted, the cheap crates first: crate, file, the text that stands there once, what takes its place,
-and what that means. Two places of a file are altered at once by two texts and two replacements."""
+and what that means. Two places are altered at once by two texts and two replacements, and two files by two names beside these."""
 
 BUGS = [
     # table
-    ("table", "src/walk.rt", "const MOST_STATES: u32 = 256;", "const MOST_STATES: u32 = 255;", "lawful tables of 256 states are turned away"),
-    ("table", "src/walk.rt", "const MOST_DENOMINATOR: u32 = 65_536;", "const MOST_DENOMINATOR: u32 = 65_535;", "the denominator 65,536 is turned away"),
+    ("table", "src/limits.rt", "const MOST_STATES: u32 = 256;", "const MOST_STATES: u32 = 255;", "lawful tables of 256 states are turned away"),
+    ("table", "src/limits.rt", "const MOST_DENOMINATOR: u32 = 65_536;", "const MOST_DENOMINATOR: u32 = 65_535;", "the denominator 65,536 is turned away"),
     ("table", "src/walk.rt", "if successor >= source.states() {", "if successor > source.states() {", "a branch to the state one past the last is accepted"),
     ("table", "src/walk.rt", "(-MOST_REWARD..=MOST_REWARD)", "(-MOST_REWARD + 1..=MOST_REWARD)", "the least reward that is allowed is turned away"),
     ("table", "src/walk.rt", "(1..=MOST_BRANCHES)", "(1..=MOST_CHOICES)", "choices with 9 to 16 branches are accepted"),
@@ -28,10 +28,10 @@ BUGS = [
     ("console", "src/command.rt", ".parse().ok()", ".parse::<u64>().ok().map(|number| number / 2)", "each digit counts half"),
     ("console", "src/input.rt", "Some((from + length, from + length + 1))", "Some((from + length, from + length))", "the next line begins at the line feed"),
     ("console", "src/answer.rt", "\"Q {lower} {upper} {}\"", "\"Q {lower} {lower} {}\"", "a quote line has the lower bound twice"),
-    ("console", "src/answer.rt", "String::from_str(heap, \"C\")", "Err(AllocError)", "no close is answered, for want of memory"),
+    ("console", "src/answer.rt", "AnswerLine::Closed => write!(f, \"C\"),", "AnswerLine::Closed => Ok(()),", "no close is answered"),
     # history
-    ("history", "src/refusal.rt", "Refusal::Idle => Notice::of_number(21),", "Refusal::Idle => Notice::of_number(20),", "an idle engine reports want of memory"),
-    ("history", "src/refusal.rt", "LoadFault::Memory => Refusal::Memory,", "LoadFault::Memory => Refusal::Idle,", "want of memory becomes the refusal of an idle engine"),
+    ("history", "src/refusal.rt", "Refusal::Idle => Notice::of_number(21),", "Refusal::Idle => Notice::of_number(20),", "an idle engine reports another number"),
+    ("history", "src/refusal.rt", "Refusal::Table(broken)", "match broken {\n            Fault::Denominator => Refusal::Idle,\n            _ => Refusal::Table(broken),\n        }", "one broken limit becomes the refusal of an idle engine"),
     # rules
     ("rules", "src/lib.rt", "1_048_576", "1_000_000", "F is a million"),
     # modelfile
@@ -46,7 +46,7 @@ BUGS = [
     ("model", "src/rewards.rt", "choices.iter().map(|row| row.reward).min()", "choices.iter().skip(choices.len().saturating_sub(1)).map(|row| row.reward).min()", "the least reward is the last one"),
     ("model", "src/rewards.rt", ("choices.iter().map(|row| row.reward).min()", "choices.iter().map(|row| row.reward).max()"), ("choices.iter().skip(1).map(|row| row.reward).min()", "choices.iter().skip(1).map(|row| row.reward).max()"), "the reward of the first choice is passed over"),
     ("model", "src/copy.rt", "let first = branches.len() as u32;", "let first = choices.len() as u32;", "a choice points to the wrong branches"),
-    ("model", "src/copy.rt", "denominator: source.denominator(),", "denominator: source.denominator() / 2,", "the copy has half the denominator"),
+    ("model", "src/copy.rt", "rows.denominator = source.denominator();", "rows.denominator = source.denominator() / 2;", "the copy has half the denominator"),
     ("model", "src/lend.rt", "self.rows.branch(state, choice, branch)", "if branch == self.rows.branches(state, choice) {\n            return self.rows.branch(state, choice, branch.saturating_sub(1));\n        }\n        self.rows.branch(state, choice, branch)", "the copy answers one branch too many"),
     # decomposition
     ("decomposition", "src/passes.rt", "square.bit(successor, state)", "square.bit(state, successor)", "a choice is kept if its successors are reached, not if they lead back"),
@@ -63,27 +63,27 @@ BUGS = [
     ("quoting", "src/read.rt", "&choices[..used.choices as usize],", "&choices[..0],", "the model that is read has no choices"),
     ("quoting", "src/answer.rt", "plan_line(heap, &list[..states])", "plan_line(heap, &list[..MOST_STATES])", "a plan line has what stands after the states too"),
     # layouts of book
-    ("book", "src/groups.rt", "starts.push(0)?;", "starts.push(1)?;", "the first state of node 0 is passed over"),
-    ("book", "src/listed.rt", "(parts.node_of(branch.0), branch.1)", "(parts.node_of(branch.1), branch.1)", "a link leads to the node of another state"),
+    ("book", "src/groups.rt", "starts.push(0).unwrap();", "starts.push(1).unwrap();", "the first state of node 0 is passed over"),
+    ("book", "src/listed.rt", "node.get(successor as usize)", "node.get(weight as usize)", "a link leads to the node of another state"),
     ("book", "src/listed.rt", "home[place] = node as u32;", "home[place] = known;", "the home of a component is its own number"),
-    ("book", "src/places.rt", "self.inside[16 * state as usize + choice as usize]", "!self.inside[16 * state as usize + choice as usize]", "inside and leaving choices are swapped"),
-    ("book", "src/listed.rt", "Ok(home)", "Err(LoadFault::Memory)", "every lawful table is turned away for want of memory"),
+    ("book", "src/places.rt", "        self.lists.parts.inside[", "        !self.lists.parts.inside[", "inside and leaving choices are swapped"),
+    ("book", "src/lay.rt", "        self.lists.fill(&self.model);\n        Ok(())", "        Err(Fault::States)", "every lawful table is turned away"),
     # engine
-    ("engine", "src/calls.rt", "map_err(Refusal::from)", "map_err(|_| Refusal::Memory)", "an open reports want of memory whatever limit is broken"),
-    ("engine", "src/calls.rt", "self.held = Ok(desk);", "let _held: Result<Desk, Refusal> = Ok(desk);", "an accepted load keeps the old table"),
-    ("engine", "src/calls.rt", "let desk = Desk::open(heap, source)?;", "let refusal = Refusal::Idle;\n        self.held = Err(refusal);\n        let desk = Desk::open(heap, source)?;", "a load resets the engine before the new table is checked"),
-    ("engine", "src/calls.rt", "self.held = Ok(desk);\n        Ok(())", "self.held = Ok(desk);\n        Err(Refusal::Memory)", "a load that was accepted is refused"),
-    ("engine", "src/calls.rt", "Ok((desk.states(), desk.components()))", "Ok((desk.components(), desk.states()))", "standing swaps its pair"),
+    ("engine", "src/calls.rt", "desk.load(source).err()", "desk.load(source).err().map(|_| Fault::States)", "an idle engine has the fault 11 whatever limit is broken"),
+    ("engine", "src/calls.rt", "self.desk.load(source)?;", "table::check(source)?;", "an accepted load keeps the old table"),
+    ("engine", "src/calls.rt", "self.desk.load(source)?;", "self.desk.close();\n        self.desk.load(source)?;", "a load resets the engine before the new table is checked"),
+    ("engine", "src/calls.rt", "self.idle = None;\n        Ok(())", "self.idle = None;\n        Err(Refusal::Idle)", "a load that was accepted is refused"),
+    ("engine", "src/calls.rt", "Ok((self.desk.states(), self.desk.components()))", "Ok((self.desk.components(), self.desk.states()))", "standing swaps its pair"),
     ("engine", "src/calls.rt", "desk.refine(component, steps, width)", "desk.refine(component, 1, width)", "a refine takes one step at most"),
     ("engine", "src/calls.rt", "Ok((made, lo, hi))", "Ok((steps, lo, hi))", "a refine counts all steps asked for"),
     ("engine", "src/calls.rt", "Ok((made, lo, hi))", "Ok((0, lo, hi))", "a refine answers count 0"),
     ("engine", "src/calls.rt", "if component >= components {", "if component > components {", "the component one past the last is let through"),
-    ("engine", "src/calls.rt", "Ok(self.desk()?.sweep(count))", "Ok(self.desk()?.sweep(1))", "a sweep call makes one sweep"),
+    ("engine", "src/calls.rt", "Ok(self.desk.sweep(count))", "Ok(self.desk.sweep(1))", "a sweep call makes one sweep"),
     ("engine", "src/calls.rt", "(1..=1000).contains(&count)", "(1..=1001).contains(&count)", "counts up to 1,001 are accepted"),
-    ("engine", "src/calls.rt", "desk.close();", "desk.close(); desk.sweep(1);", "a close sweeps once from the start"),
+    ("engine", "src/calls.rt", "self.desk.close();", "self.desk.close(); self.desk.sweep(1);", "a close sweeps once from the start"),
     ("engine", "src/calls.rt", "desk.quote(state)", "desk.quote(0)", "every state is quoted as state 0"),
     ("engine", "src/calls.rt", "i128::from(upper) - i128::from(lower) <= i128::from(width)", "i128::from(upper) - i128::from(lower) < i128::from(width)", "the mark is 0 where the bounds are just the width apart"),
-    ("engine", "src/calls.rt", "self.desk()?.plan(list);", "self.desk()?.plan(&mut []);", "a plan leaves the caller's list"),
+    ("engine", "src/calls.rt", "self.desk.plan(list);", "self.desk.plan(&mut []);", "a plan leaves the caller's list"),
     # book
     ("book", "src/start.rt", "book.hi.fill(top);", "book.hi.fill(bottom);", "an open sets the upper bounds to the least reward"),
     ("book", "src/serve.rt", "u64::from(self.layout.states())", "u64::from(self.layout.nodes())", "the number of nodes for that of states"),
@@ -113,11 +113,11 @@ BUGS = [
     ("book", "src/refine.rt", "here + LowerSide::round(down, 2)", "here + down / 2", "half of a gain is rounded toward zero"),
     ("book", "src/gain.rt", "choice: chosen(below.exit),", "choice: chosen(above.exit),", "the choice recorded is the one of the upper side"),
     ("book", "src/refine.rt", "if rises {", "if !rises {", "choices are recorded unless lo rises"),
-    ("book", "src/serve.rt", ("use table::Source;", "Layout::of(heap, source)?"), ("use sources::Band;\nuse table::Source;", "Layout::of(heap, &Band::new(1, 1, 1))?"), "the engine never asks its source: it opens a fixed table"),
+    ("book", "src/serve.rt", "self.layout.load(source)?;", "self.layout.load(&sources::Band::new(1, 1, 1))?;", "the engine never asks its source: it loads a fixed table"),
     # definitions: what the code is held to
     ("horizon", "specs/Means.antt", "round_down (negsuc a) (suc k) = negsuc (a / suc k)", "round_down (negsuc a) (suc k) = neg_ℤ (pos (suc a / suc k))", "the definition of rounding down is toward zero"),
     ("history", "specs/Calls.antt", "count_within n = nat_le 1 n && nat_le n 1000", "count_within n = nat_le 1 n && nat_le n 1001", "the definition of a count allows 1,001"),
-    ("history", "specs/Calls.antt", "after_load T memory S =\n    elim (fault_of T) [\n      | Some e ↦ S", "after_load T memory S =\n    elim (fault_of T) [\n      | Some e ↦ idle (refusal.Table e)", "by definition a load that is refused leaves the engine idle"),
+    ("history", "specs/Calls.antt", "after_load T S =\n    elim (fault_of T) [\n      | Some e ↦ S", "after_load T S =\n    elim (fault_of T) [\n      | Some e ↦ idle e", "by definition a load that is refused leaves the engine idle"),
     ("history", "specs/Answers.antt", "(pos width)) 1 0)", "(pos width)) 0 1)", "the definition of the mark is turned round"),
     ("rules", "specs/Setting.antt", "scale_in_use = 1048576", "scale_in_use = 1000000", "F is a million by definition"),
     ("rules", "specs/Refine.antt", "largest M.table.states (states_of M.table k) (gain M round_up t)", "largest M.table.states (states_of M.table k) (gain M round_down t)", "the upper bound is rounded down by definition"),
@@ -127,8 +127,30 @@ BUGS = [
     # components and samples
     ("components", "specs/Inside.antt", "B s c && every (T.branches s c) (λ b. r (successor T s c b) s)", "B s c && every (T.branches s c) (λ b. r s (successor T s c b))", "by definition a pass keeps the choices whose successors are reached, not those that lead back"),
     ("components", "specs/Inside.antt", "inside T = passes T (sum_n T.states T.choices)", "inside T = passes T 0", "by definition every choice is inside"),
-    ("components", "src/lib.rt", "    states\n", "    states.saturating_sub(1)\n", "a table has a node fewer than states at most"),
+    ("components", "specs/Depth.antt", "depth_below T zero = λ v. false", "depth_below T zero = λ v. true", "by definition every node has depth 0"),
     ("samples", "src/tables.rt", "(7_919 * choice % (2 * most + 1)) as i32 - most as i32", "(7_919 * choice % (2 * most + 1)) as i32", "no reward of a large table is negative"),
     ("samples", "src/tables.rt", "[1, 2_047, 4_096, 6_144, 8_192, 12_288, 16_384, 16_384]", "[1, 2_048, 4_096, 6_144, 8_192, 12_288, 16_384, 16_384]", "the uneven weights do not add up"),
     ("samples", "src/day.rt", "const STAYING: (u32, u32) = (3, 1);", "const STAYING: (u32, u32) = (3, 2);", "the export is not broken"),
+    # what the numbers are, what calls begin anew, what an answer is
+    ("history", ("specs/Refusals.antt", "specs/Refusals.antt", "src/refusal.rt", "src/refusal.rt"), ("refusal_notice Component = noted 22", "refusal_notice Count = noted 24", "Component => Notice::of_number(22)", "Count => Notice::of_number(24)"), ("refusal_notice Component = noted 24", "refusal_notice Count = noted 22", "Component => Notice::of_number(24)", "Count => Notice::of_number(22)"), "22 and 24 are swapped in the definition and in the code"),
+    ("history", ("../table/specs/Faults.antt", "../table/specs/Faults.antt", "../table/src/fault.rt", "../table/src/fault.rt"), ("notice_of (Choices s) = noted 13", "notice_of (Branches s c) = noted 15", "(13, state, 0, 0)", "(15, state, choice, 0)"), ("notice_of (Choices s) = noted 15", "notice_of (Branches s c) = noted 13", "(15, state, 0, 0)", "(13, state, choice, 0)"), "13 and 15 are swapped in the definition and in the code"),
+    ("history", "specs/Calls.antt", "BeginsAnew S close = IsLoaded S", "BeginsAnew S close = ⊥", "by definition bounds may not widen at a close"),
+    ("history", "specs/Calls.antt", "BeginsAnew S (load T) = fault_of T ≡ None", "BeginsAnew S (load T) = ⊥", "by definition bounds may not widen at an accepted load"),
+    ("history", "specs/Answers.antt", "answer_idle e standing = unopened e", "answer_idle e standing = refused (refusal.Table e)", "by definition standing of an idle engine is refused"),
+    # a step, the start and the plan by definition
+    ("rules", "specs/Refine.antt", "cond (int_lt (largest_up M t k) h) (largest_up M t k) h", "largest_up M t k", "by definition hi is the largest up of the last step"),
+    ("rules", "specs/Refine.antt", "cond (states_of M.table k s && int_lt l (least_down M t k))", "cond (states_of M.table k s)", "by definition choices are recorded though lo did not rise"),
+    ("rules", "specs/Refine.antt", "cond (states_of M.table k s && not (held M t k)) (shifted M t k s) (t s)", "cond (states_of M.table k s) (shifted M t k s) (t s)", "by definition the vector moves in a held step"),
+    ("rules", "specs/Refine.antt", "  x = B.x;", "  x = B.hi;", "by definition a step writes the bounds of nodes"),
+    ("rules", "specs/Book.antt", "hi = replicate (components T) (top M);", "hi = replicate (components T) (bottom M);", "by definition hi begins at the least reward"),
+    ("rules", "specs/Play.antt", "| Leave t c ↦ cond (s == t) c (toward T t s)", "| Leave t c ↦ cond (s == t) c (at B.recorded s)", "by definition a state of a node that is left plays its recorded choice"),
+    # a space, an open and a list of calls
+    ("engine", "src/calls.rt", "let idle = desk.load(source).err();", "let idle = table::check(source).err();", "an engine never loads what it is opened on"),
+    ("engine", "src/calls.rt", "        self.idle = None;\n", "", "an engine that was idle stays idle after an accepted load"),
+    ("engine", "src/histories.rt", "one.answer = Some(answer);", "one.answer = one.answer.or(Some(answer));", "an answer that stood in a call's place is left there"),
+    ("engine", "src/histories.rt", "            .sweep(*count)", "            .sweep((*count).min(9))", "a sweep of a list makes nine sweeps at most"),
+    ("engine", "src/space.rt", "desk: Desk::new(heap)?,", "desk: {\n                let mut desk = Desk::new(heap)?;\n                let _done = desk.load(&sources::Band::new(1, 1, 1));\n                desk\n            },", "a space holds a band before its first table"),
+    ("book", "src/play.rt", "measure(layout, &mut distances, node, state);", "measure(layout, &mut distances, node, layout.members_of(node)[0]);", "distances are measured from the first state of a node"),
+    ("decomposition", "src/kept.rt", "self.flags.fill(true);", "self.flags.fill(false);", "no choice is kept at the beginning of a load"),
+    ("model", "src/copy.rt", "run[branch as usize] = source.branch(state, choice, branch);", "run[branch as usize] = source.branch(state, choice, 0);", "each branch of the copy is the first of its choice"),
 ]

@@ -5,7 +5,7 @@
     tools/planted/try.py COPY NAME...    those of the named crates
 
 COPY is made from this repository if it is not there (with the folders out/, so that what is proved is not proved again).
-Each bug is one replacement in one file of one crate. `rt check` checks that crate alone: what a crate promises to the
+Each bug is one replacement in one file of one crate, or some that belong together. `rt check` checks that crate alone: what a crate promises to the
 crates above it stays the same. Prints 'refused' with the first error, 'PASSED', or that the bug is no Rattle.
 What a check wrote is in COPY/out/planted/. RT in the environment names another rt.
 Exit status: 0 if every bug tried was refused.
@@ -34,31 +34,40 @@ def first_error(output):
     return " / ".join(lines[-3:])[:600]
 
 
-def planted(path, old, new):
-    """Plants the bug and gives the text as it was."""
-    before = text = path.read_text()
-    for o, n in [(old, new)] if isinstance(old, str) else zip(old, new):
+def planted(folder, file, old, new):
+    """Plants the bug and gives the texts of its files as they were."""
+    olds, news = ((old,), (new,)) if isinstance(old, str) else (old, new)
+    files = (file,) * len(olds) if isinstance(file, str) else file
+    before = {}
+    for name, o, n in zip(files, olds, news):
+        path = folder / name
+        text = path.read_text()
+        before.setdefault(path, text)
         if text.count(o) != 1:
+            restored(before)
             sys.exit(f"{path}: the text to replace stands there {text.count(o)} times: {o!r}")
-        text = text.replace(o, n)
-    path.write_text(text)
+        path.write_text(text.replace(o, n))
     return before
+
+
+def restored(before):
+    for path, text in before.items():
+        path.write_text(text)
 
 
 def attempt(copy, number, bug, logs):
     crate, file, old, new, meaning = bug
-    path = copy / "crates" / crate / file
-    before = planted(path, old, new)
+    before = planted(copy / "crates" / crate, file, old, new)
     start = time.time()
     try:
         run = subprocess.run([RT, "check"], cwd=copy / "crates" / crate, capture_output=True, text=True)
     finally:
-        path.write_text(before)
+        restored(before)
     output = run.stdout + run.stderr
     (logs / f"{number:02}.log").write_text(output)
     refused = run.returncode == 1 and "\nlogic=not-proved" in output
     outcome = "refused" if refused else "PASSED" if run.returncode == 0 else "DID NOT REACH THE PROVER"
-    print(f"{number:2} {crate}/{file}: {meaning}: {outcome} ({time.time() - start:.0f} s)")
+    print(f"{number:2} {crate}/{file if isinstance(file, str) else ' '.join(dict.fromkeys(file))}: {meaning}: {outcome} ({time.time() - start:.0f} s)")
     if run.returncode != 0:
         print("     " + first_error(output))
     sys.stdout.flush()
