@@ -14,18 +14,22 @@ use std::alloc::{AllocError, Global};
 use table::{Fault, MOST_BRANCHES, MOST_CHOICES, MOST_STATES, Source};
 
 impl Lists {
-    // Lists with room for those of every lawful table.
-    fn new(heap: Global) -> Result<Lists, AllocError> {
+    // The lists of a model's table, with room for those of every lawful table.
+    fn new(heap: Global, model: &Model) -> Result<Lists, AllocError>
+        ensures { IfOk result (ListsHold model.now) }
+    {
         let states = MOST_STATES as usize;
         let branches = states * MOST_CHOICES as usize * MOST_BRANCHES as usize;
-        Ok(Lists {
+        let mut lists = Lists {
             parts: Parts::new(heap)?,
             links: Vec::with_capacity(heap, branches)?,
             members: Vec::with_capacity(heap, states)?,
             starts: Vec::with_capacity(heap, states + 1)?,
             home: Vec::with_capacity(heap, states)?,
             scratch: Scratch::new(heap)?,
-        })
+        };
+        lists.fill(model);
+        Ok(lists)
     }
 
     // Writes what belongs to a model's table over what the lists hold.
@@ -50,8 +54,7 @@ impl Layout {
         ensures { IfOk result (LaidOut still_table) }
     {
         let model = Model::new(heap)?;
-        let mut lists = Lists::new(heap)?;
-        lists.fill(&model);
+        let lists = Lists::new(heap, &model)?;
         Ok(Layout { model, lists })
     }
 

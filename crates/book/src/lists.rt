@@ -2,7 +2,7 @@ ghost use Rattle.std.specs.Prelude.{◌≤◌, vec_capacity};
 
 use decomposition::{Parts, Scratch};
 
-// The parts of a table with more flat lists made from them. Not a list for each state or choice: flat data is a rule of the project.
+// The parts of a table, and its branches, states and components listed by them. Not a list for each state or choice: flat data is a rule of the project.
 // Each list has room for every lawful table, so that a load asks for no memory.
 #[derive(Drop)]
 pub(crate) struct Lists {

@@ -101,7 +101,7 @@ impl Layout {
         requires choice { choice < (layout_table self.now).choices state }
         ensures { result ≡ inside (layout_table self.now) state choice }
     {
-        // the places of a state, as the parts lay them; their own place is a function of crate decomposition alone
+        // so many flags to a state, as the parts lay them; their own place is a function of crate decomposition alone
         self.lists.parts.inside[MOST_CHOICES as usize * state as usize + choice as usize]
     }
 

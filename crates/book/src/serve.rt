@@ -25,8 +25,7 @@ impl Desk {
         ensures { IfOk result (AtStart still_table) }
     {
         let layout = Layout::new(heap)?;
-        let mut book = Book::new(heap)?;
-        book.start(&layout);
+        let book = Book::new(heap, &layout)?;
         Ok(Desk { layout, book })
     }
 

@@ -92,12 +92,12 @@ pub(crate) fn write_start(layout: &Layout, book: &mut Book)
 }
 
 impl Book {
-    // A book with room for that of every lawful table.
-    pub(crate) fn new(heap: Global) -> Result<Book, AllocError>
-        ensures { IfOk result HasRoom }
+    // The book of a layout's table at its start, with room for that of every lawful table.
+    pub(crate) fn new(heap: Global, layout: &Layout) -> Result<Book, AllocError>
+        ensures { IfOk result (Started (layout_table layout.now)) }
     {
         let most = MOST_STATES as usize;
-        Ok(Book {
+        let mut book = Book {
             vector: Vec::with_capacity(heap, most)?,
             recorded: Vec::with_capacity(heap, most)?,
             lo: Vec::with_capacity(heap, most)?,
@@ -107,7 +107,9 @@ impl Book {
             plan: Vec::with_capacity(heap, most)?,
             halfway: Vec::with_capacity(heap, most)?,
             marks: Vec::with_capacity(heap, most)?,
-        })
+        };
+        book.start(layout);
+        Ok(book)
     }
 
     // Gives each list the places that it needs of a table, and writes the start.

@@ -6,5 +6,5 @@ invariant_of-result c =
     record {
       least_is = least_found _ c.in_ok-model.model c.in_ok-model.ensures;
       largest_is = largest_found _ c.in_ok-model.model c.in_ok-model.ensures;
-      held = c.fill.ensures;
+      held = c.in_ok-lists.ensures;
     }
