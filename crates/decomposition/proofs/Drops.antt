@@ -1,11 +1,11 @@
 -- The steps of a pass over flags, and that passes come to the inside choices.
-use Rattle.std.proofs.Common.{◌≡◌, ℕ, suc, ◌+◌, ◌*◌, ◌<◌, ◌≤◌, Bool, true, false, ◌&&◌, ◌||◌, List, sym, refl, ap, ◌∙◌, ap₂, inl, inr, ⊎_elim, add-one, arith}
+use Rattle.std.proofs.Common.{◌≡◌, ℕ, suc, ◌+◌, ◌*◌, ◌<◌, ◌≤◌, Bool, true, false, not, ◌&&◌, ◌||◌, List, sym, refl, ap, ◌∙◌, ap₂, inl, inr, ⊎_elim, add-one, arith}
 use Rattle.std.specs.Cmp.{both_ways as same_test}
 use Rattle.std.proofs.lemmas.Bool.{cases_eq, both_ways}
 use Rattle.table.specs.Sums.{sum_n}
 use Rattle.table.specs.Table.{Table, successor}
 use Rattle.table.specs.Limits.{Lawful}
-use Rattle.components.specs.Below.{every}
+use Rattle.components.specs.Below.{any, every}
 use Rattle.components.specs.EndComponent.{Choices, Choice, ChoicesIncluded}
 use Rattle.components.specs.Inside.{reach, pass, passes, inside}
 use Rattle.components.proofs.Below.{grid_at}
@@ -14,8 +14,9 @@ use Rattle.components.proofs.Reversible.{settled_inside}
 use Rattle.decomposition.specs.Bits.{bit_at}
 use Rattle.decomposition.specs.Flags.{flag_at, Flagged, AllSet}
 use Rattle.decomposition.specs.Marking.{leads_back, Shows}
-use Rattle.decomposition.specs.Dropping.{DroppedChoice, DroppedState, DroppedAll, Passed}
-use Rattle.decomposition.proofs.Searches.{every_ext}
+use Rattle.decomposition.specs.Dropping.{drops, DroppedChoice, DroppedState, DroppedAll, Passed}
+use Rattle.decomposition.proofs.Marked.{any_more}
+use Rattle.decomposition.proofs.Searches.{any_ext, every_ext}
 
 -- nothing changed in two steps
 still_both : {before then : Bool} {old mid new : List Bool} → (before ≡ false → mid ≡ old) → (then ≡ false → new ≡ mid)
@@ -32,6 +33,10 @@ state_more {T} {rows} {s} {k} {old} {mid} {new} {before} d e = record {
       rw q (e.here ∙ ap (λ (x : Bool). x && leads_back T rows s k) (d.other (16 * s + k) (inr (omega arith)))))
       (λ (q : c ≡ k → ⊥). e.other (16 * s + c) (λ z. q (omega arith)) ∙ d.here c (omega arith))
       (cases_eq c k);
+  said =
+      ap₂ (λ (x y : Bool). x || y) d.said
+      (e.said ∙ ap (λ (x : Bool). x && not (leads_back T rows s k)) (d.other (16 * s + k) (inr (omega arith))))
+      ∙ sym (any_more k (drops T rows old s));
   other = λ i h. ⊎_elim
       (λ (l : i < 16 * s). e.other i (λ z. omega arith) ∙ d.other i (inl l))
       (λ (l : 16 * s + (k + 1) ≤ i). e.other i (λ z. omega arith) ∙ d.other i (inr (omega arith))) h;
@@ -50,11 +55,22 @@ all_more {T} {rows} {k} {old} {mid} {new} {before} law hk d e = record {
       let few = (law.choices s (omega arith)).1 in
       e.other (16 * s + c) (inl (omega arith)) ∙ d.here s c (omega arith) l)
       (cases_eq s k);
+  said =
+      ap₂ (λ (x y : Bool). x || y) d.said
+      (e.said
+      ∙ any_ext (T.choices k) (drops T rows mid k) (drops T rows old k)
+      (λ c l. ap (λ (x : Bool). x && not (leads_back T rows k c)) (d.other (16 * k + c) (omega arith))))
+      ∙ sym (any_more k (λ t. any (T.choices t) (drops T rows old t)));
   other = λ i h.
       let few = (law.choices k hk).1 in
       e.other i (inr (omega arith)) ∙ d.other i (omega arith);
   still = still_both {before = before} d.still e.still;
 }
+
+-- what is dropped is what is in one set and not in the other
+gone : (x y : Bool) → (x && not y) ≡ (x && not (x && y))
+gone true y = refl
+gone false y = refl
 
 -- a pass by marks is a pass
 pub passed : (T : Table) → Lawful T → (rows : List (List ℕ)) (old new : List Bool) (changed : Bool)
@@ -68,6 +84,14 @@ passed T law rows old new changed w d = record {
       (λ b h. w (successor T s c b) s (within law p h) p.state))
       ∙ sym (grid_at T.states T.choices (λ x y. flag_at old x y && every (T.branches x y) (λ b. reach T (flag_at old) (successor T x y b) x))
       s c p.state p.choice);
+  said =
+      d.said
+      ∙ any_ext T.states (λ s. any (T.choices s) (drops T rows old s)) (λ s. any (T.choices s) (λ c. flag_at old s c && not (flag_at new s c)))
+      (λ s h.
+      any_ext (T.choices s) (drops T rows old s) (λ c. flag_at old s c && not (flag_at new s c))
+      (λ c l.
+      gone (flag_at old s c) (leads_back T rows s c)
+      ∙ ap (λ (x : Bool). flag_at old s c && not x) (sym (d.here s c h l))));
   still = d.still;
 }
 

@@ -1,5 +1,5 @@
 -- The steps of the numbering.
-use Rattle.std.proofs.Common.{◌≡◌, ℕ, zero, suc, ◌+◌, ◌<◌, ◌≤◌, Bool, true, false, cond, ◌||◌, List, [], ◌∷◌, ◌++◌, length, get_or, Some, None, Option, sym, refl, ap, ◌∙◌, subst, ap₂, ⊎_elim, add-one, arith}
+use Rattle.std.proofs.Common.{◌≡◌, ℕ, ◌+◌, ◌<◌, ◌≤◌, Bool, true, false, cond, List, [], ◌∷◌, ◌++◌, length, get_or, Some, None, Option, sym, refl, ap, ◌∙◌, subst, ap₂, ⊎_elim, add-one, arith}
 use Rattle.std.specs.Bool.{then_some}
 use Rattle.std.specs.Int.{from_bool}
 use Rattle.std.proofs.lemmas.List.{get_or_append_left, get_or_push, length-append}
@@ -18,16 +18,13 @@ use Rattle.decomposition.specs.Bits.{bit_at}
 use Rattle.decomposition.specs.Flags.{flag_at, Flagged}
 use Rattle.decomposition.specs.Marking.{Shows}
 use Rattle.decomposition.specs.Numbered.{Numbered}
+use Rattle.decomposition.proofs.Searches.{any_ext}
 
 pub sum_more : (k : ℕ) (f : ℕ → ℕ) → sum_n (k + 1) f ≡ sum_n k f + f k
 sum_more k f = rw add-one refl
 
 count_next : (k : ℕ) (p : ℕ → Bool) (b : Bool) → p k ≡ b → count (k + 1) p ≡ count k p + cond b 1 0
 count_next k p b e = sum_more k (λ i. cond (p i) 1 0) ∙ ap (λ (x : Bool). count k p + cond x 1 0) e
-
-any_same : (n : ℕ) (p q : ℕ → Bool) → ((i : ℕ) → i < n → p i ≡ q i) → any n p ≡ any n q
-any_same zero p q h = refl
-any_same (suc n) p q h = ap₂ (λ (x y : Bool). x || y) (any_same n p q (λ i l. h i (omega arith))) (h n (omega arith))
 
 pub chosen : {X : Type 0} (b : Bool) (x : X) → then_some b x ≡ cond b (Some x) None
 chosen true x = refl
@@ -64,7 +61,7 @@ module _ (T : Table) (law : Lawful T) where
   pub flags_shown : (flags : List Bool) → Flagged T flags (inside T) → (s : ℕ) → s < T.states
       → any (T.choices s) (flag_at flags s) ≡ in_component T s
   unfolding in_component
-  flags_shown flags f s h = any_same (T.choices s) (flag_at flags s) (inside T s) (λ c l. f s c (record { state = h; choice = l }))
+  flags_shown flags f s h = any_ext (T.choices s) (flag_at flags s) (inside T s) (λ c l. f s c (record { state = h; choice = l }))
 
   module _ (k : ℕ) (node : List ℕ) (component : List (Option ℕ)) (components : ℕ) (hk : k < T.states)
       (N : Numbered T k node component components) where

@@ -39,6 +39,10 @@ pub every_listed : {X : Type 0} (test : X → Bool) (xs : List X) (d : X) (n : �
 every_listed test xs d n e =
     ap (list_all test) (sym (ap (λ (k : ℕ). take k xs) e ∙ take-length xs)) ∙ every_below test xs d n (omega arith)
 
+pub any_ext : (n : ℕ) (p q : ℕ → Bool) → ((i : ℕ) → i < n → p i ≡ q i) → any n p ≡ any n q
+any_ext zero p q h = refl
+any_ext (suc n) p q h = ap₂ (λ (x y : Bool). x || y) (any_ext n p q (λ i l. h i (omega arith))) (h n (omega arith))
+
 pub every_ext : (n : ℕ) (p q : ℕ → Bool) → ((k : ℕ) → k < n → p k ≡ q k) → every n p ≡ every n q
 every_ext zero p q e = refl
 every_ext (suc n) p q e = ap₂ (λ (x y : Bool). x && y) (every_ext n p q (λ k l. e k (omega arith))) (e n (omega arith))

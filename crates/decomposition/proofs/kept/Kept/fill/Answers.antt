@@ -1,6 +1,5 @@
 use Rattle.std.proofs.Common.{true, replicate, ap, ◌∙◌, rules}
-use Rattle.std.proofs.lemmas.List.Elements.{same_from_all_zip}
 use Rattle.decomposition.proofs.kept.Kept.fill.Goals as goal
 
 pub returns : goal.returns
-returns c = c.fill.ensures.items (λ y e. search (rules, same_from_all_zip)) ∙ ap (λ n. replicate n true) (c.args.self.now.flags.ok.0 ∙ c.args.self.now.size)
+returns c = c.fill.ensures.items (λ y e. search rules) ∙ ap (λ n. replicate n true) (c.args.self.now.flags.ok.0 ∙ c.args.self.now.size)
