@@ -127,7 +127,7 @@ BUGS = [
     # components and samples
     ("components", "specs/Inside.antt", "B s c && every (T.branches s c) (λ b. r (successor T s c b) s)", "B s c && every (T.branches s c) (λ b. r s (successor T s c b))", "by definition a pass keeps the choices whose successors are reached, not those that lead back"),
     ("components", "specs/Inside.antt", "inside T = passes T (sum_n T.states T.choices)", "inside T = passes T 0", "by definition every choice is inside"),
-    ("components", "specs/Depth.antt", "depth_below T zero = λ v. false", "depth_below T zero = λ v. true", "by definition every node has depth 0"),
+    ("components", "specs/Depth.antt", "depth_below T zero = λ v. false", "depth_below T zero = λ v. not false", "by definition every node has depth 0"),
     ("samples", "src/tables.rt", "(7_919 * choice % (2 * most + 1)) as i32 - most as i32", "(7_919 * choice % (2 * most + 1)) as i32", "no reward of a large table is negative"),
     ("samples", "src/tables.rt", "[1, 2_047, 4_096, 6_144, 8_192, 12_288, 16_384, 16_384]", "[1, 2_048, 4_096, 6_144, 8_192, 12_288, 16_384, 16_384]", "the uneven weights do not add up"),
     ("samples", "src/day.rt", "const STAYING: (u32, u32) = (3, 1);", "const STAYING: (u32, u32) = (3, 2);", "the export is not broken"),
