@@ -1,14 +1,17 @@
 -- An answer line reads back as its letter and its numbers.
 use Rattle.std.proofs.Common.{◌≡◌, ℕ, suc, ◌≤◌, true, false, eqb, leb, List, [], ◌∷◌, ◌++◌, map, get_or, ℤ, pos, negsuc, neg_ℤ, decimal, sym, refl, ap, ◌∙◌, arith}
 use Rattle.std.proofs.lemmas.Fmt.{digits_decimal, digits_value-decimal}
-use Rattle.std.proofs.ByRecursion.{All-append, all-has}
+use Rattle.std.proofs.ByRecursion.{All-append}
 use Rattle.std.proofs.lemmas.Bool.{and_parts, cond-false, leb-true, ne_eqb}
 use Rattle.std.specs.Str.Parse.{digits_value}
 use Rattle.std.specs.Char.{is_ascii_digit}
 use Rattle.std.specs.Fmt.{signed_decimal}
-use Rattle.std.specs.List.{ContainsAt as Has, AllByRecursion}
+use Rattle.std.specs.List.{AllByRecursion}
 use Rattle.std.specs.Str.{all_ascii_digits}
-use Rattle.console.specs.Lines.{up_to, line_of, answer_line, fields_of, number_in, Small, letters, AnswerLaw}
+use Rattle.console.specs.Lines.{up_to, line_of, answer_line, fields_of, number_in, Small}
+use Rattle.console.specs.Answers.{letter_and_numbers, letter, numbers, line_bytes, Sized, AnswerLaw}
+use Rattle.console.specs.declared.answer.AnswerLine.{AnswerLine}
+use Rattle.console.specs.declared.answer.AnswerLine.TheVariants.{Loaded, Refined, Swept, Quoted, Planned, Closed, Refused}
 use Rattle.console.proofs.Fields.{spaced, line_spaced}
 use Rattle.console.proofs.Figures.{own}
 
@@ -67,31 +70,22 @@ numbers_signed : (zs : List ℤ) → AllByRecursion Small zs → map number_in (
 numbers_signed [] h = refl
 numbers_signed (z ∷ zs) h = ap (λ x. x ∷ map number_in (map signed_decimal zs)) (number_signed z h.0) ∙ ap (λ xs. z ∷ xs) (numbers_signed zs h.1)
 
--- a letter of an answer is neither a blank nor a line feed
-capital : (letter : ℕ) → Has letters letter → 65 ≤ letter
-capital letter h = all-has (λ b. 65 ≤ b) letters letter (omega arith, (omega arith, (omega arith, (omega arith, (omega arith, (omega arith, (omega arith, tt))))))) h
+-- a letter is neither a blank nor a line feed
+no_blank : (letter : ℕ) → 65 ≤ letter → eqb letter 32 ≡ false
+no_blank letter l = ne_eqb letter 32 (λ e. omega arith)
 
-no_blank : (letter : ℕ) → Has letters letter → eqb letter 32 ≡ false
-no_blank letter h = let l = capital letter h in ne_eqb letter 32 (λ e. omega arith)
-
-first : (letter : ℕ) (numbers : List ℤ) → Has letters letter → up_to 32 (answer_line letter numbers) ≡ letter ∷ []
-first letter zs h =
+first_word : (letter : ℕ) (zs : List ℤ) → 65 ≤ letter → up_to 32 (answer_line letter zs) ≡ letter ∷ []
+first_word letter zs l =
     ap (up_to 32) (line_spaced (letter ∷ []) (map signed_decimal zs))
-    ∙ cond-false (eqb letter 32) [] (letter ∷ up_to 32 (spaced (map signed_decimal zs))) (no_blank letter h)
+    ∙ cond-false (eqb letter 32) [] (letter ∷ up_to 32 (spaced (map signed_decimal zs))) (no_blank letter l)
     ∙ ap (λ xs. letter ∷ xs) (word_end (map signed_decimal zs))
 
-fields : (letter : ℕ) (numbers : List ℤ) → Has letters letter → AllByRecursion Small numbers → map number_in (fields_of (answer_line letter numbers)) ≡ numbers
-fields letter zs h small =
+numbers_read : (letter : ℕ) (zs : List ℤ) → 65 ≤ letter → AllByRecursion Small zs → map number_in (fields_of (answer_line letter zs)) ≡ zs
+numbers_read letter zs l small =
     ap (map number_in) (ap fields_of (line_spaced (letter ∷ []) (map signed_decimal zs))
-    ∙ past (letter ∷ []) (spaced (map signed_decimal zs)) (no_blank letter h, tt)
+    ∙ past (letter ∷ []) (spaced (map signed_decimal zs)) (no_blank letter l, tt)
     ∙ fields_spaced (map signed_decimal zs) (clear_all zs small))
     ∙ numbers_signed zs small
-
-told : (letter other : ℕ) (numbers others : List ℤ) → Has letters letter → Has letters other → AllByRecursion Small numbers → AllByRecursion Small others
-    → answer_line letter numbers ≡ answer_line other others → (letter ≡ other) × (numbers ≡ others)
-told b d ys zs hb hd sy sz e =
-    let front : b ∷ [] ≡ d ∷ [] = sym (first b ys hb) ∙ ap (up_to 32) e ∙ first d zs hd in
-    (ap (λ xs. get_or xs 0 0) front, sym (fields b ys hb sy) ∙ ap (λ bs. map number_in (fields_of bs)) e ∙ fields d zs hd sz)
 
 -- no line feed among the bytes
 abbrev Unfed : List ℕ → Type 0
@@ -113,8 +107,30 @@ unfed_line start [] u h = u
 unfed_line start (z ∷ zs) u h =
     unfed_line (start ++ (32 ∷ signed_decimal z)) zs (All-append (λ b. b ≡ 10 → ⊥) start (32 ∷ signed_decimal z) u ((λ e. omega arith), unfed_signed z h.0)) h.1
 
-single : (letter : ℕ) (numbers : List ℤ) → Has letters letter → AllByRecursion Small numbers → Unfed (answer_line letter numbers)
-single letter zs h small = let l = capital letter h in unfed_line (letter ∷ []) zs ((λ e. omega arith), tt) small
+capital : (a : AnswerLine) → 65 ≤ letter a
+capital (Loaded states components) = omega arith
+capital (Refined steps lo hi) = omega arith
+capital (Swept sweeps) = omega arith
+capital (Quoted lower upper mark) = omega arith
+capital (Planned choices) = omega arith
+capital Closed = omega arith
+capital (Refused number places) = omega arith
+
+single : (a : AnswerLine) → Sized a → Unfed (line_bytes a)
+single a small = let l = capital a in unfed_line (letter a ∷ []) (numbers a) ((λ e. omega arith), tt) small
+
+first : (a : AnswerLine) → up_to 32 (line_bytes a) ≡ letter a ∷ []
+first a = first_word (letter a) (numbers a) (capital a)
+
+fields : (a : AnswerLine) → Sized a → map number_in (fields_of (line_bytes a)) ≡ numbers a
+fields a small = numbers_read (letter a) (numbers a) (capital a) small
+
+told : (a b : AnswerLine) → Sized a → Sized b → line_bytes a ≡ line_bytes b → letter_and_numbers a ≡ letter_and_numbers b
+told a b sa sb e =
+    let front : letter a ∷ [] ≡ letter b ∷ [] = sym (first a) ∙ ap (up_to 32) e ∙ first b in
+    let same : letter a ≡ letter b = ap (λ xs. get_or xs 0 0) front in
+    let all : numbers a ≡ numbers b = sym (fields a sa) ∙ ap (λ bs. map number_in (fields_of bs)) e ∙ fields b sb in
+    λ i. (same i, all i)
 
 pub answer_law : AnswerLaw
 answer_law = record { single = single; first = first; fields = fields; told = told }

@@ -5,8 +5,6 @@ mod answer;
 mod command;
 mod input;
 
-pub use answer::{
-    close_line, loaded_line, plan_line, quote_line, refine_line, refusal_line, sweep_line,
-};
+pub use answer::{AnswerLine, Places};
 pub use command::{Command, read_command};
 pub use input::{Lines, next_line};

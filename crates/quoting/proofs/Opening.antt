@@ -1,12 +1,12 @@
 -- The start of a run.
-use Rattle.std.proofs.Common.{◌≡◌, ℕ, List, [], ◌∷◌, ◌++◌, IfSome, IfOk, Some, None, Ok, Err, Option, Result, sym, refl, ap, ◌∙◌, append-nil, arith}
+use Rattle.std.proofs.Common.{◌≡◌, ℕ, List, [], ◌∷◌, ◌++◌, IfSome, Some, None, Ok, Err, Option, Result, sym, refl, ap, ◌∙◌, append-nil, arith}
 use Rattle.std.specs.Option.{option_map}
 use Rattle.table.specs.Table.{Table}
+use Rattle.table.specs.declared.fault.Fault.{Fault}
 use Rattle.modelfile.specs.Lists.{outcome}
 use Rattle.modelfile.specs.declared.fault.FileFault.{FileFault}
 use Rattle.history.specs.Calls.{State, idle, loaded, standing, opened}
-use Rattle.history.specs.Answers.{refused as answer_refused, stands, answer, answer_idle, answer_loaded}
-use Rattle.history.specs.declared.refusal.Refusal.{Refusal}
+use Rattle.history.specs.Answers.{stands, unopened, answer, answer_idle, answer_loaded}
 use Rattle.console.specs.Inputs.{lines_of}
 use Rattle.quoting.specs.Refused.{refused_file}
 use Rattle.quoting.specs.Models.{table_read}
@@ -18,7 +18,7 @@ never : {A : Type 0} → ◌≡◌ {A = ℕ} 0 1 → A
 never e = absurd (omega arith)
 
 -- a refused model ends the run, and else it goes on
-pub ends : (S : State) (e : Refusal) → answer_refused e ≡ answer S standing → ◌≡◌ {A = Option State} None (begins S).1
+pub ends : (S : State) (e : Fault) → unopened e ≡ answer S standing → ◌≡◌ {A = Option State} None (begins S).1
 unfolding answer answer_idle answer_loaded
 ends (idle f) e h = refl
 ends (loaded T B) e h = never (cc)
@@ -45,15 +45,13 @@ pub unbegun : (file : List ℕ) (e : FileFault) → Err e ≡ table_read (outcom
 unfolding start
 unbegun file e h = ap (λ (o : Result Table FileFault). begins_with o) h
 
-pub opened_made : {X E : Type 0} (bytes : X → List ℕ) (r : Result (X × Option Console) E) (file : List ℕ) (S : State) → begins S ≡ start file
-    → IfOk r (λ p. bytes p.0 ≡ (begins S).0) → IfOk r (λ p. option_map held p.1 ≡ (begins S).1) → IfOk r (λ p. IfSome p.1 (λ c. c.lines ≡ 0))
-    → IfOk r (λ p. Opened file (bytes p.0) p.1)
-opened_made bytes (Ok p) file S e l h n = record {
+pub opened_made : (file line : List ℕ) (console : Option Console) (S : State) → begins S ≡ start file
+    → line ≡ (begins S).0 → option_map held console ≡ (begins S).1 → IfSome console (λ c. c.lines ≡ 0) → Opened file line console
+opened_made file line console S e l h n = record {
   line = l ∙ ap (λ (x : List ℕ × Option State). x.0) e;
   engine = h ∙ ap (λ (x : List ℕ × Option State). x.1) e;
   count = n;
 }
-opened_made bytes (Err x) file S e l h n = tt
 
 -- the whole text of a run that goes on, and of one that ends after its first line
 module _ (file input first text : List ℕ) (console : Option Console) (o : Opened file first console) where

@@ -2,6 +2,7 @@
 use Rattle.std.specs.Prelude.{ℕ, List, [], ◌∷◌, map, pos}
 use Rattle.std.specs.Option.{option_to_list}
 use Rattle.table.specs.Faults.{notice_of as fault_notice}
+use Rattle.table.specs.declared.fault.Fault.{Fault}
 use Rattle.table.specs.declared.fault.Notice.{Notice}
 use Rattle.modelfile.specs.Faults.{notice_of as file_notice}
 use Rattle.modelfile.specs.declared.fault.FileFault.{FileFault}
@@ -25,6 +26,10 @@ places_of line Component = line ∷ []
 places_of line State = line ∷ []
 places_of line Count = line ∷ []
 places_of line Room = line ∷ []
+
+-- a table that breaks a limit
+abbrev pub refused_table : Fault → List ℕ
+refused_table e = error_line (fault_notice e).number (limit_places (fault_notice e))
 
 -- a refused call
 abbrev pub refused_line : ℕ → Refusal → List ℕ

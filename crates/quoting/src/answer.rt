@@ -1,44 +1,53 @@
-ghost use Rattle.std.specs.Prelude.{◌≡◌, IfOk, string_bytes};
+ghost use Rattle.std.specs.Prelude.{◌≡◌, ℕ};
 ghost use Rattle.history.specs.Calls.{next, run as run_calls};
 ghost use Rattle.history.specs.Answers.{answer as answer_to};
+ghost use Rattle.console.specs.Answers.{line_bytes, AnswerLaw};
 ghost use Rattle.console.specs.Commands.{command_of};
 ghost use Rattle.console.specs.Spelling.{letter_of};
 ghost use Rattle.engine.specs.States.{state_of};
-ghost use Rattle.quoting.specs.Replies.{reply as reply_to, written, states_of, call_of, call_in};
+ghost use Rattle.quoting.specs.Replies.{reply, replied, written, states_of, call_of, call_in};
 ghost use Rattle.quoting.specs.Consoles.{held, counted};
 
-use crate::open::MOST_STATES;
 use crate::refused::{refused_call, unread};
-use crate::reply::reply;
 use crate::session::Console;
-use console::{Command, close_line, plan_line, quote_line, read_command, refine_line, sweep_line};
+use console::{AnswerLine, Command, read_command};
 use engine::Engine;
-use std::alloc::{AllocError, Global};
+use history::Refusal;
+use table::MOST_STATES;
 
 impl Console {
-    // The answer to the next line; neither has its line feed. Without memory for the text the call is made all the same.
-    pub fn answer(&mut self, heap: Global, line: &[u8]) -> Result<String, AllocError>
-        ensures bytes { IfOk result (λ t. string_bytes t ≡ reply_to (counted self.old.lines) (held self.old) line.now) }
+    // The answer to the next line, which is without its line feed. A plan is written into the caller's list, and its answer reads it there.
+    #[tactic(auto, using(console::proofs::ReadBack::answer_law, crate::proofs::Answering::passed))]
+    pub fn answer<'a>(
+        &mut self,
+        line: &[u8],
+        list: &'a mut [u32; MOST_STATES as usize],
+    ) -> AnswerLine<'a>
+        ensures bytes { line_bytes result ≡ reply (counted self.old.lines) (held self.old) line.now }
+        ensures law { AnswerLaw }
         ensures count { self.new.lines ≡ counted self.old.lines }
         ensures engine { held self.new ≡ run_calls (held self.old) (call_in (command_of line.now)) }
     {
         self.lines = self.lines.saturating_add(1);
         match read_command(line) {
-            Some(command) => perform(heap, &mut self.engine, self.lines, command),
-            None => unread(heap, self.lines),
+            Some(command) => match perform(&mut self.engine, command, list) {
+                Ok(answer) => answer,
+                Err(refusal) => refused_call(self.lines, refusal),
+            },
+            None => unread(self.lines),
         }
     }
 }
 
-// Makes the call of the command that stands on line `line`, and answers it. One match over the kinds of command: each makes
-// another call, whose answer holds other numbers.
-fn perform(
-    heap: Global,
+// Makes the call of a command, and answers it. One match over the kinds of command: each makes another call, whose answer holds other
+// numbers.
+#[tactic(auto, using(engine::proofs::Replays::quote_stays, engine::proofs::Replays::plan_stays))]
+fn perform<'a>(
     engine: &mut Engine,
-    line: u64,
     command: Command,
-) -> Result<String, AllocError>
-    ensures bytes { IfOk result (λ t. string_bytes t ≡ written line (letter_of command) (states_of (state_of engine.old)) (answer_to (state_of engine.old) (call_of command))) }
+    list: &'a mut [u32; MOST_STATES as usize],
+) -> Result<AnswerLine<'a>, Refusal>
+    ensures bytes { (line : ℕ) → replied line result ≡ written line (letter_of command) (states_of (state_of engine.old)) (answer_to (state_of engine.old) (call_of command)) }
     ensures engine { state_of engine.new ≡ next (state_of engine.old) (call_of command) }
 {
     match command {
@@ -47,37 +56,26 @@ fn perform(
             steps,
             width,
         } => {
-            let refined = engine.refine(component, steps, width);
-            reply(heap, line, refined, |(steps, lo, hi)| {
-                refine_line(heap, steps, lo, hi)
-            })
+            let (steps, lo, hi) = engine.refine(component, steps, width)?;
+            Ok(AnswerLine::Refined { steps, lo, hi })
         }
         Command::Sweep { count } => {
-            let swept = engine.sweep(count);
-            reply(heap, line, swept, |sweeps| sweep_line(heap, sweeps))
+            let sweeps = engine.sweep(count)?;
+            Ok(AnswerLine::Swept { sweeps })
         }
         Command::Quote { state, width } => {
-            let quoted = engine.quote(state, width);
-            reply(heap, line, quoted, |(lower, upper, mark)| {
-                quote_line(heap, lower, upper, mark)
-            })
+            let (lower, upper, mark) = engine.quote(state, width)?;
+            Ok(AnswerLine::Quoted { lower, upper, mark })
         }
-        Command::Plan => plan(heap, engine, line),
-        Command::Close => reply(heap, line, engine.close(), |()| close_line(heap)),
-    }
-}
-
-// Makes a plan in a list of the program's own, and answers it.
-fn plan(heap: Global, engine: &mut Engine, line: u64) -> Result<String, AllocError>
-    ensures bytes { IfOk result (λ t. string_bytes t ≡ written line 80 (states_of (state_of engine.old)) (answer_to (state_of engine.old) (call_of Command.Plan))) }
-    ensures engine { state_of engine.new ≡ next (state_of engine.old) (call_of Command.Plan) }
-{
-    let states = states(engine);
-    // An array, and not a `Vec`: the call is made even where there is no memory.
-    let mut list = [0; MOST_STATES];
-    match engine.plan(&mut list) {
-        Ok(()) => plan_line(heap, &list[..states]),
-        Err(refusal) => refused_call(heap, line, refusal),
+        Command::Plan => {
+            engine.plan(list)?;
+            let choices = &list[..states(engine)];
+            Ok(AnswerLine::Planned { choices })
+        }
+        Command::Close => {
+            engine.close()?;
+            Ok(AnswerLine::Closed)
+        }
     }
 }
 

@@ -5,9 +5,10 @@ mod answer;
 mod open;
 mod read;
 mod refused;
-mod reply;
+mod room;
 mod run;
 mod session;
 
+pub use room::Room;
 pub use run::transcript;
 pub use session::Console;

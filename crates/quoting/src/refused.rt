@@ -1,42 +1,65 @@
-ghost use Rattle.std.specs.Prelude.{◌≡◌, IfOk, string_bytes};
-ghost use Rattle.quoting.specs.Refused.{refused_line, refused_file, unread_line};
+ghost use Rattle.std.specs.Prelude.{◌≡◌};
+ghost use Rattle.console.specs.Answers.{line_bytes};
+ghost use Rattle.quoting.specs.Refused.{refused_table, refused_line, refused_file, unread_line};
 
-use console::refusal_line;
+use console::{AnswerLine, Places};
 use history::Refusal;
-use modelfile::FileFault;
-use std::alloc::{AllocError, Global};
+use modelfile::{FileFault, FileNotice};
+use table::{Fault, Notice};
 
 // No call and no file has this refusal, so it is not a variant of theirs.
-const UNREAD: u64 = 35;
+const UNREAD: u32 = 35;
+
+// The line of a table that breaks a limit.
+pub(crate) fn refused_table(fault: Fault) -> AnswerLine<'static>
+    ensures { line_bytes result ≡ refused_table fault }
+{
+    let Notice {
+        number,
+        state,
+        choice,
+        branch,
+    } = fault.notice();
+    AnswerLine::Refused {
+        number,
+        places: Places::InTable {
+            state,
+            choice,
+            branch,
+        },
+    }
+}
 
 // The line of a refused call; `line` is the number of its command's line.
-pub(crate) fn refused_call(heap: Global, line: u64, refusal: Refusal) -> Result<String, AllocError>
-    ensures { IfOk result (λ t. string_bytes t ≡ refused_line line refusal) }
+pub(crate) fn refused_call(line: u64, refusal: Refusal) -> AnswerLine<'static>
+    ensures { line_bytes result ≡ refused_line line refusal }
 {
-    let notice = refusal.notice();
-    let number = u64::from(notice.number);
     match refusal {
-        Refusal::Table(_) => {
-            let places = [notice.state, notice.choice, notice.branch].map(u64::from);
-            refusal_line(heap, number, &places)
-        }
-        _ => refusal_line(heap, number, &[line]),
+        Refusal::Table(fault) => refused_table(fault),
+        _ => AnswerLine::Refused {
+            number: refusal.notice().number,
+            places: Places::At(line),
+        },
     }
 }
 
 // The line of a refused file.
-pub(crate) fn refused_file(heap: Global, fault: FileFault) -> Result<String, AllocError>
-    ensures { IfOk result (λ t. string_bytes t ≡ refused_file fault) }
+pub(crate) fn refused_file(fault: FileFault) -> AnswerLine<'static>
+    ensures { line_bytes result ≡ refused_file fault }
 {
-    let notice = fault.notice();
-    let number = u64::from(notice.number);
-    let place = notice.place.map(|at| at as u64);
-    refusal_line(heap, number, place.as_slice())
+    let FileNotice { number, place } = fault.notice();
+    AnswerLine::Refused {
+        number,
+        places: place.map_or(Places::Nowhere, |at| Places::At(at as u64)),
+    }
 }
 
 // The line of a line that spells no command.
-pub(crate) fn unread(heap: Global, line: u64) -> Result<String, AllocError>
-    ensures { IfOk result (λ t. string_bytes t ≡ unread_line line) }
+pub(crate) fn unread(line: u64) -> AnswerLine<'static>
+    ensures { line_bytes result ≡ unread_line line }
 {
-    refusal_line(heap, UNREAD, &[line])
+    AnswerLine::Refused {
+        number: UNREAD,
+        places: Places::At(line),
+    }
 }

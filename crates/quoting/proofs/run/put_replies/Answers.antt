@@ -1,4 +1,5 @@
 use Rattle.std.proofs.Common.{◌≡◌, ℕ, suc, ◌<◌, List, ◌++◌, length, string_bytes, ap, ◌∙◌, arith}
+use Rattle.console.specs.Answers.{line_bytes}
 use Rattle.console.specs.Inputs.{lines_of}
 use Rattle.console.specs.declared.input.Lines.{Lines}
 use Rattle.quoting.specs.Consoles.{held}
@@ -17,12 +18,12 @@ loop-line-init c =
 pub loop-line-preserved : goal.loop-line-preserved
 loop-line-preserved c =
     let found = c.in-Some.ensures.steps in
-    let answer = c.in_ok-answer.ensures in
+    let answer = c.answer-answer.ensures in
     let size = ap length found in
     let few : c.loop-line.console.lines < 18446744073709551615 = omega (arith, size) in
-    let more = line_more (string_bytes c.loop-line.text) _ _ (string_bytes c.in_ok-answer.answer) _ _ c.loop-line.console.lines c.answer.new.self.lines
-    (held c.loop-line.console) (held c.answer.new.self) found few answer.bytes answer.count answer.engine c.loop-line.invariant.0 in (
-      ap (λ (bs : List ℕ). bs ++ bytes_of (replies (suc c.answer.new.self.lines) (held c.answer.new.self) (lines_of c.next.new.self.rest.now)))
+    let more = line_more (string_bytes c.loop-line.text) _ _ (line_bytes c.answer-answer.result) _ _ c.loop-line.console.lines c.answer-answer.new.self.lines
+    (held c.loop-line.console) (held c.answer-answer.new.self) found few answer.bytes answer.count answer.engine c.loop-line.invariant.0 in (
+      ap (λ (bs : List ℕ). bs ++ bytes_of (replies (suc c.answer-answer.new.self.lines) (held c.answer-answer.new.self) (lines_of c.next.new.self.rest.now)))
           c.in_ok-writeln.ensures.bytes ∙ more,
       omega (arith, answer.count, size),
     )
