@@ -1,13 +1,12 @@
 -- What a decomposition starts from, and what it comes to.
-use Rattle.std.proofs.Common.{◌≡◌, ℕ, ◌+◌, ◌-◌, ◌*◌, ◌<◌, ◌≤◌, Bool, true, false, ◌&&◌, ltb, List, ◌++◌, length, get_or, take, drop, replicate, vec_items, vec_len, Option, sym, ap, ◌∙◌, subst, ap₂, ⊎_elim, arith}
+use Rattle.std.proofs.Common.{◌≡◌, ℕ, ◌+◌, ◌-◌, ◌*◌, ◌<◌, ◌≤◌, Bool, true, false, ◌&&◌, ltb, List, ◌++◌, length, get_or, take, drop, replicate, vec_items, vec_len, sym, ap, ◌∙◌, subst, ap₂, ⊎_elim, arith}
 use Rattle.std.specs.List.{slice_range}
 use Rattle.std.proofs.lemmas.List.{get_or-replicate, get_or-take, get_or-drop, get_or_append_left, get_or-append-add, get_or_past, length-append, length-drop, length-replicate, length-take-le, take_all}
 use Rattle.std.proofs.lemmas.Bool.{cases_eq, cases_lt, lt-ltb, le-ltb}
 use Rattle.table.specs.Table.{Table}
 use Rattle.table.specs.Limits.{Lawful}
 use Rattle.components.specs.Inside.{inside}
-use Rattle.components.specs.Nodes.{is_lowest, nodes, components}
-use Rattle.components.proofs.Below.{count_most}
+use Rattle.components.specs.Nodes.{nodes, components}
 use Rattle.components.proofs.Law.{every_lawful_table}
 use Rattle.decomposition.specs.Flags.{flag_at, Flagged, AllSet, OwnFlags}
 use Rattle.decomposition.specs.Numbered.{Numbered}
@@ -87,14 +86,6 @@ module _ (T : Table) (k : ℕ) (flags own part mid next : List Bool) (few : T.ch
           (λ (h : c < T.choices k). choice_flag c h ∙ sym (ap (λ (b : Bool). b && flag_at flags k c) (lt-ltb c (T.choices k) h)))
           (λ (h : T.choices k ≤ c). no_flag c h l ∙ sym (ap (λ (b : Bool). b && flag_at flags k c) (le-ltb c (T.choices k) h)))
           (cases_lt c (T.choices k))
-
-pub few_nodes : (T : Table) → Lawful T → {node : List ℕ} {component : List (Option ℕ)} {components : ℕ}
-    → Numbered T T.states node component components → length component ≤ 256
-few_nodes T law N =
-    let a = count_most T.states (is_lowest T) in
-    let m = N.nodes in
-    let l = law.states.1 in
-    omega arith
 
 pub decomposed : (T : Table) → Lawful T → (p : Parts) (flags : List Bool) → Flagged T flags (inside T)
     → OwnFlags T T.states flags (vec_items p.inside)
