@@ -17,10 +17,10 @@ pub(crate) fn print_standing(rt: &HostRuntime, engine: &Engine) -> io::Result<()
     let stands = engine.standing();
     print_answer(
         rt,
-        stands.map_or_else(Answer::Unopened, |(states, components)| Answer::Stands {
-            states,
-            components,
-        }),
+        stands.map_or_else(
+            Answer::Unopened,
+            |(states, components)| Answer::Stands { states, components },
+        ),
     )
 }
 

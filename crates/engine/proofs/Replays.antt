@@ -2,7 +2,6 @@
 use Rattle.std.proofs.Common.{◌≡◌, ℕ, ◌+◌, ◌<◌, ◌≤◌, List, [], ◌∷◌, ◌++◌, map, length, take, drop, set, get_or, Some, Option, sym, refl, ap, ap₂, subst, ◌∙◌, add-zero, arith}
 use Rattle.std.proofs.lemmas.List.{take_more, take_more_set, drop-set-lt, get_or-drop, map_push, take_all}
 use Rattle.std.proofs.lemmas.Grind.{drop_more_same}
-
 use Rattle.std.specs.Option.{option_map}
 use Rattle.table.specs.Table.{Table}
 use Rattle.history.specs.Calls.{State, idle, loaded, Call, standing, quote, plan, opened, next, after_idle, after_call, run, Quiet}

@@ -16,10 +16,10 @@ fn make<S: Source + Drop>(engine: &mut Engine, call: &mut Call<S>) -> Answer
             .map_or_else(Answer::Refused, |()| Answer::Done),
         Call::Standing => {
             let stands = engine.standing();
-            stands.map_or_else(Answer::Unopened, |(states, components)| Answer::Stands {
-                states,
-                components,
-            })
+            stands.map_or_else(
+                Answer::Unopened,
+                |(states, components)| Answer::Stands { states, components },
+            )
         }
         Call::Refine {
             component,
@@ -27,11 +27,10 @@ fn make<S: Source + Drop>(engine: &mut Engine, call: &mut Call<S>) -> Answer
             width,
         } => {
             let refined = engine.refine(*component, *steps, *width);
-            refined.map_or_else(Answer::Refused, |(made, lo, hi)| Answer::Refined {
-                made,
-                lo,
-                hi,
-            })
+            refined.map_or_else(
+                Answer::Refused,
+                |(made, lo, hi)| Answer::Refined { made, lo, hi },
+            )
         }
         Call::Sweep { count } => engine
             .sweep(*count)
@@ -41,11 +40,10 @@ fn make<S: Source + Drop>(engine: &mut Engine, call: &mut Call<S>) -> Answer
             .map_or_else(Answer::Refused, |()| Answer::Done),
         Call::Quote { state, width } => {
             let quoted = engine.quote(*state, *width);
-            quoted.map_or_else(Answer::Refused, |(lower, upper, mark)| Answer::Quoted {
-                lower,
-                upper,
-                mark,
-            })
+            quoted.map_or_else(
+                Answer::Refused,
+                |(lower, upper, mark)| Answer::Quoted { lower, upper, mark },
+            )
         }
         Call::Plan { list } => engine
             .plan(list)

@@ -60,7 +60,10 @@ pub(crate) fn list_of(call: &Call<OwnedList>) -> &[u32] {
 // How an engine stands.
 pub(crate) fn stands(engine: &Engine) -> Answer {
     let stands = engine.standing();
-    stands.map_or_else(Answer::Unopened, |(states, components)| Answer::Stands { states, components })
+    stands.map_or_else(
+        Answer::Unopened,
+        |(states, components)| Answer::Stands { states, components },
+    )
 }
 
 // The line of a call that was made; none where it was not.
