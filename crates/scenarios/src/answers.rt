@@ -35,6 +35,7 @@ impl fmt::Display for Line<'_> {
 }
 
 // The number and the place of a notice.
+#[derive(Drop)]
 struct Numbers(Notice);
 
 impl fmt::Display for Numbers {
