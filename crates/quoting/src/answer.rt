@@ -16,7 +16,8 @@ use history::Refusal;
 use table::MOST_STATES;
 
 impl Console {
-    // The answer to the next line, which is without its line feed. A plan is written into the caller's list, and its answer reads it there.
+    // The answer to the next line, which is without its line feed. A plan is written into the caller's list, and its answer reads it there;
+    // nothing is promised of what the list holds after that.
     #[tactic(auto, using(console::proofs::ReadBack::answer_law, crate::proofs::Answering::passed))]
     pub fn answer<'a>(
         &mut self,

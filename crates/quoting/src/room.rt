@@ -13,7 +13,7 @@ const MOST_CHOICES: usize = 1024;
 
 const MOST_BRANCHES: usize = 4096;
 
-// All the memory that a run ever needs, made before it sees a file: the space of its engine, and the lists that the file is read into, with
+// All the memory that a console ever needs, made before it sees a file: the space of its engine, and the lists that the file is read into, with
 // all their places.
 #[derive(Drop)]
 pub struct Room {
