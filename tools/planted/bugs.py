@@ -57,11 +57,11 @@ BUGS = [
     ("decomposition", "src/reach.rt", ("let row = rows[middle as usize];", "            add_row(other, &row);\n        }\n    }\n"), ("let mut row = rows[middle as usize];", "            add_row(&mut row, other);\n        }\n    }\n    rows[middle as usize] = row;\n"), "the ways through a state are turned round"),
     ("decomposition", "src/bits.rt", "*word |= other[j];", "*word = other[j];", "a row of marks is overwritten"),
     # quoting
-    ("quoting", "src/refused.rt", "const UNREAD: u64 = 35;", "const UNREAD: u64 = 34;", "a line that spells no command has another number"),
-    ("quoting", "src/answer.rt", "quote_line(heap, lower, upper, mark)", "quote_line(heap, lower, upper, !mark)", "the mark of a quote is turned round"),
-    ("quoting", "src/refused.rt", "Refusal::Memory => refusal_line(heap, number, &[]),", "Refusal::Memory => refusal_line(heap, number, &[line]),", "want of memory has a place"),
+    ("quoting", "src/refused.rt", "const UNREAD: u32 = 35;", "const UNREAD: u32 = 34;", "a line that spells no command has another number"),
+    ("quoting", "src/answer.rt", "Ok(AnswerLine::Quoted { lower, upper, mark })", "Ok(AnswerLine::Quoted {\n                lower,\n                upper,\n                mark: !mark,\n            })", "the mark of a quote is turned round"),
+    ("quoting", "src/refused.rt", "number: refusal.notice().number,\n            places: Places::At(line),", "number: refusal.notice().number,\n            places: Places::Nowhere,", "a refused call does not name its line"),
     ("quoting", "src/read.rt", "&choices[..used.choices as usize],", "&choices[..0],", "the model that is read has no choices"),
-    ("quoting", "src/answer.rt", "plan_line(heap, &list[..states])", "plan_line(heap, &list[..MOST_STATES])", "a plan line has what stands after the states too"),
+    ("quoting", "src/answer.rt", "&list[..states(engine)]", "&list[..]", "a plan line has what stands after the states too"),
     # layouts of book
     ("book", "src/groups.rt", "starts.push(0).unwrap();", "starts.push(1).unwrap();", "the first state of node 0 is passed over"),
     ("book", "src/listed.rt", "node.get(successor as usize)", "node.get(weight as usize)", "a link leads to the node of another state"),
