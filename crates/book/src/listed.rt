@@ -15,7 +15,7 @@ fn write_links(node: &[u32], branches: &[(u32, u32)], links: &mut [(u32, u32)])
     }
 }
 
-// Writes each branch so, over what the list holds.
+// Writes the links of the branches over what the list holds.
 pub(crate) fn link_branches(parts: &Parts, branches: &[(u32, u32)], links: &mut Vec<(u32, u32)>)
     requires { length branches.now ≤ vec_capacity links.old }
     ensures links { links.new.items ≡ map (link_of (node_in parts.now)) branches.now }

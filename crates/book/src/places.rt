@@ -2,7 +2,7 @@ ghost use Rattle.std.specs.Prelude.{◌≡◌, ℕ, ◌<◌, ◌+◌, ◌≤◌,
 ghost use Rattle.components.specs.Inside.{inside};
 ghost use Rattle.components.specs.Nodes.{nodes, node_of, components, component_at};
 ghost use Rattle.book.specs.Facts.{node_states};
-ghost use Rattle.book.specs.Layouts.{layout_table, choice_rows, row_of, choice_of};
+ghost use Rattle.book.specs.Layouts.{layout_table, choice_of};
 ghost use Rattle.book.specs.Listed.{link_of};
 
 use crate::layout::Layout;

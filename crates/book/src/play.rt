@@ -1,4 +1,4 @@
-ghost use Rattle.std.specs.Prelude.{◌≡◌, ℕ, ◌<◌, ◌≤◌, true, false, None, ◌++◌, length, drop, ◌≢◌};
+ghost use Rattle.std.specs.Prelude.{◌≡◌, ℕ, ◌<◌, ◌≤◌, true, false, None, length, drop, ◌≢◌};
 ghost use Rattle.components.specs.Below.{any};
 ghost use Rattle.components.specs.Nodes.{nodes, node_of};
 ghost use Rattle.rules.specs.Book.{exit_at};

@@ -1,4 +1,4 @@
-ghost use Rattle.std.specs.Prelude.{◌≡◌, ℕ, ◌^◌, ◌<◌, true, false, not, ◌&&◌, ◌⊎◌, length, ℤ, pos, ◌+ℤ◌, ◌-ℤ◌, ◌≤ℤ◌, if◌then◌else◌, int_le, int_lt, slice_index, slice_index_or, slice_set};
+ghost use Rattle.std.specs.Prelude.{◌≡◌, ℕ, ◌^◌, ◌<◌, true, ◌⊎◌, length, ℤ, pos, ◌+ℤ◌, ◌-ℤ◌, ◌≤ℤ◌, if◌then◌else◌, int_le, int_lt, slice_index, slice_index_or, slice_set};
 ghost use Rattle.horizon.specs.Means.{round_down};
 ghost use Rattle.components.specs.Nodes.{components, states_of};
 ghost use Rattle.rules.specs.Choosing.{at, at_z, largest, smallest};

@@ -4,7 +4,6 @@ ghost use Rattle.model.specs.Room.{still_table};
 ghost use Rattle.components.specs.Nodes.{components as components_of};
 ghost use Rattle.rules.specs.Choosing.{at_z};
 ghost use Rattle.rules.specs.Setting.{setting_of};
-ghost use Rattle.rules.specs.Book.{start};
 ghost use Rattle.rules.specs.Runs.{changed};
 ghost use Rattle.rules.specs.Runs.Change.{refines, sweeping, closing};
 ghost use Rattle.rules.specs.Sweep.{sweeps};

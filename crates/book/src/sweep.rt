@@ -1,4 +1,4 @@
-ghost use Rattle.std.specs.Prelude.{◌≡◌, ◌<◌, ◌&&◌, length, if◌then◌else◌, int_lt, slice_set};
+ghost use Rattle.std.specs.Prelude.{◌≡◌, ◌<◌, length, if◌then◌else◌, int_lt, slice_set};
 ghost use Rattle.components.specs.Nodes.{nodes};
 ghost use Rattle.rules.specs.Choosing.{eq_z, at_z};
 ghost use Rattle.rules.specs.Setting.{setting_of};
