@@ -153,4 +153,10 @@ BUGS = [
     ("book", "src/play.rt", "measure(layout, &mut distances, node, state);", "measure(layout, &mut distances, node, layout.members_of(node)[0]);", "distances are measured from the first state of a node"),
     ("decomposition", "src/kept.rt", "self.flags.fill(true);", "self.flags.fill(false);", "no choice is kept at the beginning of a load"),
     ("model", "src/copy.rt", "run[branch as usize] = source.branch(state, choice, branch);", "run[branch as usize] = source.branch(state, choice, 0);", "each branch of the copy is the first of its choice"),
+    # the quote program's lines
+    ("quoting", "src/answer.rt", "refused_call(self.lines, refusal)", "refused_call(0, refusal)", "a refused call names line 0"),
+    ("quoting", "src/answer.rt", "None => unread(self.lines),", "None => unread(0),", "a line that spells no command is named as line 0"),
+    ("quoting", "src/refused.rt", "|at| Places::At(at as u64)", "|_| Places::Nowhere", "a refused file does not name its byte"),
+    ("quoting", "src/open.rt", "(refused_table(fault), None)", "(refused_table(fault), Some(Console { engine, lines: 0 }))", "a run goes on with a refused model"),
+    ("quoting", "src/run.rt", "console.answer(line, &mut list)", "console.answer(input, &mut list)", "each line is answered as the whole input"),
 ]
