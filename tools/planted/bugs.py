@@ -67,7 +67,7 @@ BUGS = [
     ("book", "src/listed.rt", "node.get(successor as usize)", "node.get(weight as usize)", "a link leads to the node of another state"),
     ("book", "src/listed.rt", "home[place] = node as u32;", "home[place] = known;", "the home of a component is its own number"),
     ("book", "src/places.rt", "        self.lists.parts.inside[", "        !self.lists.parts.inside[", "inside and leaving choices are swapped"),
-    ("book", "src/lay.rt", "        self.lists.fill(&self.model);\n        Ok(())", "        Err(Fault::States)", "every lawful table is turned away"),
+    ("book", "src/serve.rt", "self.book.start(&self.layout);\n        Ok(())", "self.book.start(&self.layout);\n        Err(Fault::States)", "every lawful table is turned away"),
     # engine
     ("engine", "src/calls.rt", "Engine { desk, idle }", "Engine {\n            desk,\n            idle: idle.map(|_| Fault::States),\n        }", "an idle engine has the fault 11 whatever limit is broken"),
     ("engine", "src/calls.rt", "self.desk.load(source)?;", "table::check(source)?;", "an accepted load keeps the old table"),
@@ -150,7 +150,7 @@ BUGS = [
     ("engine", "src/histories.rt", "one.answer = Some(answer);", "one.answer = one.answer.or(Some(answer));", "an answer that stood in a call's place is left there"),
     ("engine", "src/histories.rt", "            .sweep(*count)", "            .sweep((*count).min(9))", "a sweep of a list makes nine sweeps at most"),
     ("engine", "src/space.rt", "desk: Desk::new(heap)?,", "desk: {\n                let mut desk = Desk::new(heap)?;\n                let _done = desk.load(&sources::Band::new(1, 1, 1));\n                desk\n            },", "a space holds a band before its first table"),
-    ("book", "src/play.rt", "measure(layout, &mut distances, node, state);", "measure(layout, &mut distances, node, layout.members_of(node)[0]);", "distances are measured from the first state of a node"),
+    ("book", "src/play.rt", "measure(layout, &mut distances, node, state);", "measure(layout, &mut distances, node, 0);", "distances are measured from state 0 in every node"),
     ("decomposition", "src/kept.rt", "self.flags.fill(true);", "self.flags.fill(false);", "no choice is kept at the beginning of a load"),
     ("model", "src/copy.rt", "run[branch as usize] = source.branch(state, choice, branch);", "run[branch as usize] = source.branch(state, choice, 0);", "each branch of the copy is the first of its choice"),
     # the quote program's lines
