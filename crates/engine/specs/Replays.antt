@@ -43,7 +43,7 @@ abbrev pub call_after : answered.Answer → history.Call → history.Call
 call_after a (history.plan list) = history.plan (list_after a list)
 call_after a c = c
 
--- one call of the code, from R to S
+-- one call of the code, from R to R'
 pub record Makes {S : Type 0} (table : S → Table) (R R' : history.State) (before after : Call S) (a : Answer) : Type 0 where
   pub answers : answer_of (list_in after) a ≡ answered.answer R (call_of table before)
   pub call : call_of table after ≡ call_after (answered.answer R (call_of table before)) (call_of table before)
