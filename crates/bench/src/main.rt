@@ -8,14 +8,20 @@ use samples::{Weights, chain, largest};
 use sources::OwnedList;
 use std::time::{Duration, Instant};
 
-// The parts of a table, with the times of its copy and of the decomposition; none where the table is refused.
+// The parts of a table, with the times of its copy and of the decomposition; none where the table is refused, or there is no memory for it.
 fn timed(
     rt: &HostRuntime,
     lists: &OwnedList,
 ) -> anyhow::Result<Option<(Parts, Duration, Duration)>> {
-    let mut model = Model::new(rt.alloc())?;
-    let mut parts = Parts::new(rt.alloc())?;
-    let mut scratch = Scratch::new(rt.alloc())?;
+    let Ok(mut model) = Model::new(rt.alloc()) else {
+        return Ok(None);
+    };
+    let Ok(mut parts) = Parts::new(rt.alloc()) else {
+        return Ok(None);
+    };
+    let Ok(mut scratch) = Scratch::new(rt.alloc()) else {
+        return Ok(None);
+    };
     let start = Instant::now(rt)?;
     if model.load(lists).is_err() {
         return Ok(None);

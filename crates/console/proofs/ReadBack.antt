@@ -1,14 +1,14 @@
 -- An answer line reads back as its letter and its numbers.
 use Rattle.std.proofs.Common.{◌≡◌, ℕ, suc, ◌≤◌, true, false, eqb, leb, List, [], ◌∷◌, ◌++◌, map, get_or, ℤ, pos, negsuc, neg_ℤ, decimal, sym, refl, ap, ◌∙◌, arith}
 use Rattle.std.proofs.lemmas.Fmt.{digits_decimal, digits_value-decimal}
-use Rattle.std.proofs.ByRecursion.{All-append}
+use Rattle.std.proofs.ByRecursion.{All-append, all-has}
 use Rattle.std.proofs.lemmas.Bool.{and_parts, cond-false, leb-true, ne_eqb}
 use Rattle.std.specs.Str.Parse.{digits_value}
 use Rattle.std.specs.Char.{is_ascii_digit}
 use Rattle.std.specs.Fmt.{signed_decimal}
-use Rattle.std.specs.List.{AllByRecursion}
+use Rattle.std.specs.List.{ContainsAt as Has, AllByRecursion}
 use Rattle.std.specs.Str.{all_ascii_digits}
-use Rattle.console.specs.Lines.{up_to, line_of, answer_line, fields_of, number_in, Small}
+use Rattle.console.specs.Lines.{up_to, line_of, answer_line, fields_of, number_in, Small, letters, LineLaw}
 use Rattle.console.specs.Answers.{letter_and_numbers, letter, numbers, line_bytes, Sized, AnswerLaw}
 use Rattle.console.specs.declared.answer.AnswerLine.{AnswerLine}
 use Rattle.console.specs.declared.answer.AnswerLine.TheVariants.{Loaded, Refined, Swept, Quoted, Planned, Closed, Refused}
@@ -107,6 +107,32 @@ unfed_line start [] u h = u
 unfed_line start (z ∷ zs) u h =
     unfed_line (start ++ (32 ∷ signed_decimal z)) zs (All-append (λ b. b ≡ 10 → ⊥) start (32 ∷ signed_decimal z) u ((λ e. omega arith), unfed_signed z h.0)) h.1
 
+-- Lines of an answer's letter
+
+letter_capital : (letter : ℕ) → Has letters letter → 65 ≤ letter
+letter_capital letter h = all-has (λ b. 65 ≤ b) letters letter (omega arith, (omega arith, (omega arith, (omega arith, (omega arith, (omega arith, (omega arith, tt))))))) h
+
+line_single : (letter : ℕ) (zs : List ℤ) → Has letters letter → AllByRecursion Small zs → Unfed (answer_line letter zs)
+line_single letter zs h small = let l = letter_capital letter h in unfed_line (letter ∷ []) zs ((λ e. omega arith), tt) small
+
+line_told : (b d : ℕ) (ys zs : List ℤ) → Has letters b → Has letters d → AllByRecursion Small ys → AllByRecursion Small zs
+    → answer_line b ys ≡ answer_line d zs → (b ≡ d) × (ys ≡ zs)
+line_told b d ys zs hb hd sy sz e =
+    let front : b ∷ [] ≡ d ∷ [] = sym (first_word b ys (letter_capital b hb)) ∙ ap (up_to 32) e ∙ first_word d zs (letter_capital d hd) in (
+      ap (λ xs. get_or xs 0 0) front,
+      sym (numbers_read b ys (letter_capital b hb) sy) ∙ ap (λ bs. map number_in (fields_of bs)) e ∙ numbers_read d zs (letter_capital d hd) sz,
+    )
+
+line_law : LineLaw
+line_law = record {
+  single = line_single;
+  first = λ letter zs h. first_word letter zs (letter_capital letter h);
+  fields = λ letter zs h small. numbers_read letter zs (letter_capital letter h) small;
+  told = line_told;
+}
+
+-- Answers
+
 capital : (a : AnswerLine) → 65 ≤ letter a
 capital (Loaded states components) = omega arith
 capital (Refined steps lo hi) = omega arith
@@ -133,4 +159,4 @@ told a b sa sb e =
     λ i. (same i, all i)
 
 pub answer_law : AnswerLaw
-answer_law = record { single = single; first = first; fields = fields; told = told }
+answer_law = record { single = single; first = first; fields = fields; told = told; lines = line_law }

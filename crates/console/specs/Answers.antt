@@ -1,7 +1,7 @@
 -- What each answer writes.
 use Rattle.std.specs.Prelude.{◌≡◌, ℕ, List, [], ◌∷◌, map, ℤ, pos, ◌≢◌, if◌then◌else◌}
 use Rattle.std.specs.List.{AllByRecursion}
-use Rattle.console.specs.Lines.{up_to, answer_line, fields_of, number_in, Small}
+use Rattle.console.specs.Lines.{up_to, answer_line, fields_of, number_in, Small, LineLaw}
 use Rattle.console.specs.declared.answer.AnswerLine.{AnswerLine}
 use Rattle.console.specs.declared.answer.AnswerLine.TheVariants.{Loaded, Refined, Swept, Quoted, Planned, Closed, Refused}
 use Rattle.console.specs.declared.answer.Places.{Places}
@@ -43,3 +43,5 @@ pub record AnswerLaw : Type 0 where
   pub first : (a : AnswerLine) → up_to 32 (line_bytes a) ≡ letter a ∷ []
   pub fields : (a : AnswerLine) → Sized a → map number_in (fields_of (line_bytes a)) ≡ numbers a
   pub told : (a b : AnswerLine) → Sized a → Sized b → line_bytes a ≡ line_bytes b → letter_and_numbers a ≡ letter_and_numbers b
+  -- and so does every line of an answer's letter, whatever numbers follow it
+  pub lines : LineLaw

@@ -121,4 +121,5 @@ module _ {A : Type 0} (table : A → Table) (T : Table) where
             subst (Onward (run (opened T) earlier)) (sym parts) (law.tightens earlier later q);
         between = λ earlier middle later e q.
             subst (Onward (run (opened T) earlier)) (sym (run_parts (opened T) earlier middle)) (law.tightens earlier middle q);
+        law = law;
       }

@@ -4,7 +4,7 @@ use Rattle.std.specs.Option.{option_map}
 use Rattle.table.specs.Table.{Table}
 use Rattle.history.specs.Calls as history
 use Rattle.history.specs.Answers as answered
-use Rattle.history.specs.Histories.{BoundsHold, Onward}
+use Rattle.history.specs.Histories.{BoundsHold, Onward, HistoryLaw}
 use Rattle.engine.specs.States.{list_after}
 use Rattle.engine.specs.declared.call.Call.{Call}
 use Rattle.engine.specs.declared.call.Call.TheVariants as call
@@ -77,3 +77,5 @@ pub record Replayed {A : Type 0} (table : A → Table) (T : Table) (before after
   pub between : (earlier middle later : List history.Call) → calls_of table before ≡ (earlier ++ middle) ++ later
       → history.Quiet (history.run (history.opened T) earlier) middle
       → Onward (history.run (history.opened T) earlier) (history.run (history.opened T) (earlier ++ middle))
+  -- and the law goes on holding, whatever calls follow these
+  pub law : HistoryLaw T

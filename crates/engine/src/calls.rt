@@ -1,6 +1,8 @@
 ghost use Rattle.std.specs.Prelude.{◌≡◌, pos, ◌-ℤ◌, int_le, if◌then◌else◌};
 ghost use Rattle.components.specs.Law.{EveryLawfulTable};
+ghost use Rattle.rules.specs.Fit.{EveryFit};
 ghost use Rattle.rules.specs.Meaning.{EveryMeaning};
+ghost use Rattle.rules.specs.Promises.{EveryBook, EverySound};
 ghost use Rattle.history.specs.Calls.{opened, next, count_within};
 ghost use Rattle.history.specs.Calls.Call.{load as load_call, standing as standing_call, refines, sweeping, close as close_call, quote as quote_call, plan as plan_call};
 ghost use Rattle.history.specs.Answers.{answer};
@@ -31,13 +33,16 @@ fn mark(lower: i64, upper: i64, width: u64) -> bool
 
 impl Engine {
     // An engine with the source's table at its start; an idle one if the table breaks a limit. What an engine is for stands here, beside what
-    // this call does: the laws of bounds, refusals, components and rules, and the worked histories.
+    // this call does: the laws of bounds, refusals, components and rules, those of books for every scale and cap, and the worked histories.
     pub fn open<S: Source>(space: Space, source: &S) -> Engine
         ensures opens { state_of result ≡ opened (S.table source.now) }
         ensures bounds { HistoryLaw (S.table source.now) }
         ensures refusals { RefusalLaw }
         ensures components { EveryLawfulTable }
         ensures rules { EveryMeaning }
+        ensures books { EveryBook }
+        ensures sound { EverySound }
+        ensures fit { EveryFit }
         ensures worked { Worked }
     {
         let mut desk = space.desk;

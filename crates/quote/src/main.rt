@@ -1,6 +1,7 @@
 // Quotes of the model in model.bin: each line of standard input is answered as it comes.
 #![tactic(auto)]
 
+use console::next_line;
 use quoting::{Console, Room};
 use std::fs::File;
 use std::io;
@@ -34,11 +35,18 @@ fn model_file(rt: &HostRuntime) -> io::Result<Vec<u8>> {
     Ok(bytes)
 }
 
+// Lines are cut by `next_line`, whose contract says what a line is, and not by std's `split`; each is read into the same bytes.
 fn answer_lines(rt: &HostRuntime, mut console: Console) -> io::Result<()> {
-    let input = BufReader::new(rt.alloc(), rt.stdin())?;
+    let mut input = BufReader::new(rt.alloc(), rt.stdin())?;
     let mut list = [0; MOST_STATES as usize];
-    for line in input.split(rt.alloc(), b'\n') {
-        let answer = console.answer(&line?, &mut list);
+    let mut line = Vec::new(rt.alloc());
+    for _ in 0..u64::MAX {
+        line.clear();
+        input.read_until(b'\n', &mut line)?;
+        let Some((end, _)) = next_line(&line, 0) else {
+            break;
+        };
+        let answer = console.answer(&line[..end], &mut list);
         println!(rt; "{answer}")?;
         rt.stdout().flush()?;
     }

@@ -1,9 +1,12 @@
 -- What the numbers of a book fit in: the lengths of the lists and the ranges of what they hold.
 use Rattle.std.specs.Prelude.{◌≡◌, ℕ, ◌<◌, ◌≤◌, true, length, ℤ, ◌≤ℤ◌}
+use Rattle.table.specs.Limits.{Lawful}
 use Rattle.components.specs.Nodes.{nodes, node_of, components, states_of}
 use Rattle.rules.specs.Choosing.{at, at_z}
 use Rattle.rules.specs.Setting.{Setting, bottom, top}
-use Rattle.rules.specs.Book.{Book, exit_at}
+use Rattle.rules.specs.Book.{Book, exit_at, start}
+use Rattle.rules.specs.Refine.{step, refine}
+use Rattle.rules.specs.Sweep.{update, sweep, sweeps}
 use Rattle.rules.specs.declared.exit.Exit.{Exit}
 use Rattle.rules.specs.declared.exit.Exit.TheVariants.{Stay, Leave}
 
@@ -48,3 +51,16 @@ pub record Fit (M : Setting) (B : Book) : Type 0 where
   pub x : Within M (nodes M.table) (at_z B.x)
   pub y : Within M (nodes M.table) (at_z B.y)
   pub plan : PlanFits M (exit_at B.plan)
+
+-- the start fits, and each step, update, refine and sweep keeps that, whatever else holds of the book
+pub record FitKept (M : Setting) : Type 0 where
+  pub starts : Fit M (start M)
+  pub steps : (k : ℕ) → k < components M.table → (B : Book) → Fit M B → Fit M (step M k B)
+  pub updates : (v : ℕ) (B : Book) → Fit M B → Fit M (update M v B)
+  pub refines : (k n width : ℕ) → k < components M.table → (B : Book) → Fit M B → Fit M (refine M k n width B).book
+  pub sweep : (B : Book) → Fit M B → Fit M (sweep M B)
+  pub sweeps : (n : ℕ) (B : Book) → Fit M B → Fit M (sweeps M n B).book
+
+-- for every lawful table, scale and cap
+abbrev pub EveryFit : Type 0
+EveryFit = (M : Setting) → Lawful M.table → FitKept M

@@ -11,7 +11,7 @@ use Rattle.rules.specs.Refine.{refine}
 use Rattle.rules.specs.Sweep.{sweeps}
 use Rattle.rules.specs.Play.{play}
 use Rattle.rules.specs.Sound.{Sound}
-use Rattle.rules.specs.Runs.{Change, changed}
+use Rattle.rules.specs.Runs.{Change, refines, sweeping, changed, after}
 
 -- U and L of a state: those of its node
 abbrev pub upper_at : Setting → Book → ℕ → ℤ
@@ -46,7 +46,21 @@ pub record Tighter (M : Setting) (A B : Book) : Type 0 where
   pub hi : (k : ℕ) → k < components M.table → at_z B.hi k ≤ℤ at_z A.hi k
   pub lo : (k : ℕ) → k < components M.table → at_z A.lo k ≤ℤ at_z B.lo k
 
--- the start is sound, what is done with a sound book leaves a sound book, and the bounds of a sound book hold
+-- a book after any list of changes from the start: its bounds hold, and until the next close they only tighten
+pub record Promises (M : Setting) : Type 0 where
+  pub upper : (changes : List Change) → UpperHolds M (after M (start M) changes)
+  pub lower : (changes : List Change) → LowerHolds M (after M (start M) changes)
+  -- bounds only tighten until the next close
+  pub refining : (changes : List Change) (k n width : ℕ)
+      → Tighter M (after M (start M) changes) (changed M (refines k n width) (after M (start M) changes))
+  pub sweeps : (changes : List Change) (n : ℕ)
+      → Tighter M (after M (start M) changes) (changed M (sweeping n) (after M (start M) changes))
+
+-- for every lawful table, scale and cap
+abbrev pub EveryBook : Type 0
+EveryBook = (M : Setting) → Lawful M.table → Promises M
+
+-- one step of any longer history: the start is sound, what is done with a sound book leaves a sound book, and the bounds of a sound book hold
 pub record SoundKept (M : Setting) : Type 0 where
   pub starts : Sound M (start M)
   pub refined : (k n width : ℕ) → k < components M.table → (B : Book) → Sound M B → Sound M (refine M k n width B).book
@@ -57,6 +71,6 @@ pub record SoundKept (M : Setting) : Type 0 where
   pub refining : (k n width : ℕ) → k < components M.table → (B : Book) → Sound M B → Tighter M B (refine M k n width B).book
   pub sweeping : (n : ℕ) (B : Book) → Sound M B → Tighter M B (sweeps M n B).book
 
--- for every lawful table and every scale
+-- for every lawful table, scale and cap
 abbrev pub EverySound : Type 0
 EverySound = (M : Setting) → Lawful M.table → SoundKept M

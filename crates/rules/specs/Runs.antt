@@ -1,5 +1,5 @@
--- What can be done with a book.
-use Rattle.std.specs.Prelude.{ℕ, cond, nat_lt}
+-- What can be done with a book, and a book after a list of such changes.
+use Rattle.std.specs.Prelude.{ℕ, cond, List, [], ◌∷◌, nat_lt}
 use Rattle.components.specs.Nodes.{components}
 use Rattle.rules.specs.Setting.{Setting}
 use Rattle.rules.specs.Book.{Book, start}
@@ -18,3 +18,8 @@ unfoldable pub changed : Setting → Change → Book → Book
 changed M (refines k n width) B = cond (nat_lt k (components M.table)) (refine M k n width B).book B
 changed M (sweeping n) B = (sweeps M n B).book
 changed M closing B = start M
+
+-- from B on, the oldest change first
+unfoldable pub after : Setting → Book → List Change → Book
+after M B [] = B
+after M B (c ∷ cs) = after M (changed M c B) cs

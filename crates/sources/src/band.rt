@@ -1,7 +1,6 @@
-ghost use Rattle.std.specs.Prelude.{◌≡◌, ◌*◌, ◌<◌, true, pos, neg_ℤ};
-ghost use Rattle.std.specs.Fn.{FnOnceReturnsAt};
+ghost use Rattle.std.specs.Prelude.{◌≡◌, ◌*◌, ◌<◌, true, length, pos, neg_ℤ, slice_index_or};
 ghost use Rattle.table.specs.Limits.{Lawful};
-ghost use Rattle.sources.specs.Bands.{band_within, distance, band_moves, band_table};
+ghost use Rattle.sources.specs.Bands.{band_within, distance, holding, band_table};
 
 use table::Source;
 
@@ -43,22 +42,44 @@ impl Band {
             && self.holding <= MOST_HOLDING
             && self.recentring <= MOST_RECENTRING
     }
+}
 
-    // Hands the branches of a choice at a state to `read`: none where the band has no such choice.
-    // They are made here, one, two or three of them, and lie in no list of the band, so they cannot be handed out as a slice.
-    fn with_moves<R, F: FnOnce(&[(u32, u32)]) -> R>(&self, state: u32, choice: u32, read: F) -> R
-        requires { F.IsAlwaysCallable read }
-        ensures { let b = self.now in FnOnceReturnsAt F.FnOnce read (band_moves b.half b.holding b.recentring state choice) result }
-    {
-        if state >= self.states() {
-            return read(&[]);
+// How many branches holding at a state has: two at either end, else three.
+fn holding_count(half: u32, state: u32) -> u32
+    requires { half < 128 }
+    ensures { result ≡ length (holding half state) }
+{
+    if state == 0 || state == 2 * half {
+        2
+    } else {
+        3
+    }
+}
+
+// A branch of holding at a state: a step down, none, or a step up, of those that there are.
+fn holding_branch(half: u32, state: u32, branch: u32) -> (u32, u32)
+    requires half_bound { half < 128 }
+    requires state_bound { state < 256 }
+    ensures { result ≡ slice_index_or (holding half state) branch (0, 0) }
+{
+    if state == 0 {
+        match branch {
+            0 => (state, 3),
+            1 => (state + 1, 1),
+            _ => (0, 0),
         }
-        match choice {
-            0 if state == 0 => read(&[(state, 3), (state + 1, 1)]),
-            0 if state == 2 * self.half => read(&[(state - 1, 1), (state, 3)]),
-            0 => read(&[(state - 1, 1), (state, 2), (state + 1, 1)]),
-            1 => read(&[(self.half, 4)]),
-            _ => read(&[]),
+    } else if state == 2 * half {
+        match branch {
+            0 => (state - 1, 1),
+            1 => (state, 3),
+            _ => (0, 0),
+        }
+    } else {
+        match branch {
+            0 => (state - 1, 1),
+            1 => (state, 2),
+            2 => (state + 1, 1),
+            _ => (0, 0),
         }
     }
 }
@@ -104,14 +125,24 @@ impl Source for Band {
     }
 
     fn branches(&self, state: u32, choice: u32) -> u32 {
-        self.with_moves(state, choice, |moves| moves.len()) as u32
+        if state >= self.states() {
+            return 0;
+        }
+        match choice {
+            0 => holding_count(self.half, state),
+            1 => 1,
+            _ => 0,
+        }
     }
 
     fn branch(&self, state: u32, choice: u32, branch: u32) -> (u32, u32) {
-        self.with_moves(
-            state,
-            choice,
-            |moves| moves.get(branch as usize).copied().unwrap_or_default(),
-        )
+        if state >= self.states() {
+            return (0, 0);
+        }
+        match choice {
+            0 => holding_branch(self.half, state, branch),
+            1 if branch == 0 => (self.half, 4),
+            _ => (0, 0),
+        }
     }
 }

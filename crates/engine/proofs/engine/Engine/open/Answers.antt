@@ -1,6 +1,7 @@
 use Rattle.table.specs.Table.{Table}
 use Rattle.components.proofs.Law.{every_lawful_table}
 use Rattle.rules.proofs.Meaning.{every_meaning}
+use Rattle.rules.proofs.Promises.{every_book, every_sound, every_fit}
 use Rattle.history.proofs.Histories.{every_history}
 use Rattle.history.proofs.Refusing.{refusal_law}
 use Rattle.history.proofs.Worked.{worked}
@@ -16,5 +17,8 @@ returns g c =
       refusals = refusal_law;
       components = every_lawful_table;
       rules = every_meaning;
+      books = every_book;
+      sound = every_sound;
+      fit = every_fit;
       worked = worked;
     }
