@@ -44,7 +44,8 @@ impl Band {
     }
 }
 
-// How many branches holding at a state has: two at either end, else three.
+// How many branches holding at a state has: two at either end, else three. This and the next one both tell the two ends from the
+// middle: made once and handed on as a slice, which was tried, a band's branches took twice as long to ask for.
 fn holding_count(half: u32, state: u32) -> u32
     requires { half < 128 }
     ensures { result ≡ length (holding half state) }
